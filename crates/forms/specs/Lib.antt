@@ -1,0 +1,7 @@
+pub mod Fault
+pub mod Form
+pub mod Layout
+pub mod Exchange
+pub mod Forms
+pub mod Flags
+pub mod Conversion

@@ -1,0 +1,72 @@
+// The types that every call speaks in: faults, items and refusals.
+//
+// The rules of document 01 are the definitions of `specs/`: `Fault` the fault numbers, `Form` how a text falls into items,
+// `Layout`, `Exchange` and `Forms` the four forms, `Flags` the shadow flags, `Conversion` strict conversion.
+ghost use mathlib.Core.Path.{_≡_};
+ghost use Rattle.forms.specs.Fault.{numberOf};
+ghost use Rattle.forms.specs.Form.{spanOf};
+
+// Document 01's faults, in the order of their numbers.
+pub enum Fault {
+    SourceTooLong,
+    MissingTrailing,
+    StrayTrailing,
+    InvalidUnit,
+    Overlong,
+    Unrepresentable,
+    BufferTooShort,
+    ValueTooLarge,
+    OffsetOutOfRange,
+}
+
+// Document 01's number of a fault.
+pub fn number(fault: Fault) -> u32
+    ensures { λ r. ⌜ r ≡ numberOf fault ⌝ }
+{
+    match fault {
+        Fault::SourceTooLong => 1,
+        Fault::MissingTrailing => 2,
+        Fault::StrayTrailing => 3,
+        Fault::InvalidUnit => 4,
+        Fault::Overlong => 5,
+        Fault::Unrepresentable => 6,
+        Fault::BufferTooShort => 7,
+        Fault::ValueTooLarge => 8,
+        Fault::OffsetOutOfRange => 9,
+    }
+}
+
+// Where an item stands: the offset of its first code unit, and how many code units it has.
+pub struct Span {
+    pub offset: usize,
+    pub length: usize,
+}
+
+// Document 01's item: a character, or a mark, which names its fault.
+pub enum Item {
+    Character(u32, Span),
+    Mark(Fault, Span),
+}
+
+impl Item {
+    pub fn span(self) -> Span
+        ensures { λ r. ⌜ r ≡ spanOf self ⌝ }
+    {
+        match self {
+            Item::Character(_, span) => span,
+            Item::Mark(_, span) => span,
+        }
+    }
+}
+
+// Document 01's refusal: why a call gave no result, and the offset that the fault concerns.
+pub struct Refusal {
+    pub fault: Fault,
+    pub offset: usize,
+}
+
+// The answer of a strict conversion or of its measure: the code units written or needed, or the refusal.
+pub enum Conversion {
+    Units(usize),
+    Refused(Refusal),
+}
