@@ -1,0 +1,21 @@
+-- What a form owes: the laws from which the round trip, the lossy decoding and the start of an item follow for every form.
+use Prim.Native.Nat.{ℕ, _<_}
+use mathlib.Core.Path.{_≡_}
+use lib.ListN.{length}
+use Rattle.forms.specs.Form.{Role, lead, Sequence, units, Form, Content, character, fullContent, encode}
+use Rattle.laws.proofs.Sequences.{Full}
+
+-- a full sequence with the content of a character
+pub record Reads (F : Form) (c : Sequence) (v : ℕ) : Type 0 where
+  pub full : Full F c
+  pub shows : fullContent F c ≡ character v
+
+pub record Laws (F : Form) : Type 0 where
+  -- the legal encoding of a value reads as that value
+  pub legal : (v : ℕ) (c : Sequence) → encode F v ≡ units c → Reads F c v
+  -- what reads as a character is that value's legal encoding
+  pub only : (c : Sequence) (v : ℕ) → Reads F c v → encode F v ≡ units c
+  -- and its value lies below 80000000
+  pub small : (c : Sequence) (v : ℕ) → Reads F c v → v < 0x80000000
+  -- no lead reaches the longest item
+  pub reach : (u k : ℕ) → F .role u ≡ lead k → k < F .longest

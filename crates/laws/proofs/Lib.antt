@@ -1,0 +1,10 @@
+pub mod Sequences
+pub mod FormLaws
+pub mod Table
+pub mod Digits
+pub mod Rows
+pub mod LayoutLaws
+pub mod AscendingRows
+pub mod Exchanged
+pub mod ExchangeTable
+pub mod FourForms

@@ -1,0 +1,84 @@
+-- How a text falls into sequences: before, at and after a border that no trailing unit crosses.
+use Prim.Native.Nat.{ℕ, zero, suc, _+_, _-_, _≤_, _<_}
+use mathlib.Core.Path.{_≡_, refl, sym, ap, _∙_}
+use mathlib.Core.Bool.{Bool, true, false, cond}
+use mathlib.Core.List.{List, [], _∷_, _++_, append-assoc}
+use native.Mathlib.Omega.{arith}
+use native.Mathlib.Nat.{not-suc-le-zero, le-of-suc-le-suc}
+use lib.ListN.{length, drop, take, length-append}
+use Rattle.forms.specs.Form.{Role, lead, trailing, invalid, Sequence, sequence, units, size, Form, asked, isTrailing, taken, firstOf, sequencesAfter, sequences}
+
+pub same-units : (a b : Sequence) → units a ≡ units b → a ≡ b
+same-units a b e =
+    let h : a .first ≡ b .first = cc in
+    let t : a .rest ≡ b .rest = cc in
+    ap (λ (x : ℕ). sequence x (a .rest)) h ∙ ap (λ (x : List ℕ). sequence (b .first) x) t
+
+-- no trailing unit stands first
+abbrev pub NoTrailingFirst : Form → List ℕ → Type 0
+NoTrailingFirst F [] = Unit {0}
+NoTrailingFirst F (u ∷ us) = isTrailing (F .role u) ≡ false
+
+abbrev pub AllTrailing : Form → List ℕ → Type 0
+AllTrailing F [] = Unit {0}
+AllTrailing F (u ∷ us) = (F .role u ≡ trailing) × AllTrailing F us
+
+-- a lead with just the trailing units that it asks
+pub record Full (F : Form) (c : Sequence) : Type 0 where
+  pub leads : F .role (c .first) ≡ lead (length (c .rest))
+  pub trail : AllTrailing F (c .rest)
+
+-- the units of sequences, joined
+abbrev pub joined : List Sequence → List ℕ
+joined [] = []
+joined (c ∷ cs) = units c ++ joined cs
+
+module _ (F : Form) where
+  taken-cond : (b : Bool) (u k : ℕ) (us : List ℕ) → length (taken F k us) ≤ length us → length (cond b (u ∷ taken F k us) []) ≤ suc (length us)
+  taken-cond true u k us h = omega arith
+  taken-cond false u k us h = omega arith
+
+  pub taken-length : (k : ℕ) (us : List ℕ) → length (taken F k us) ≤ length us
+  taken-length zero us = omega arith
+  taken-length (suc k) [] = omega arith
+  taken-length (suc k) (u ∷ us) = taken-cond (isTrailing (F .role u)) u k us (taken-length k us)
+
+  most-cond : (b : Bool) (u k : ℕ) (us : List ℕ) → length (taken F k us) ≤ k → length (cond b (u ∷ taken F k us) []) ≤ suc k
+  most-cond true u k us h = omega arith
+  most-cond false u k us h = omega arith
+
+  pub taken-most : (k : ℕ) (us : List ℕ) → length (taken F k us) ≤ k
+  taken-most zero us = omega arith
+  taken-most (suc k) [] = omega arith
+  taken-most (suc k) (u ∷ us) = most-cond (isTrailing (F .role u)) u k us (taken-most k us)
+
+  trailing-cond : (o : Role) (u k : ℕ) (us : List ℕ) → F .role u ≡ o → AllTrailing F (taken F k us) → AllTrailing F (cond (isTrailing o) (u ∷ taken F k us) [])
+  trailing-cond (lead j) u k us e a = tt
+  trailing-cond trailing u k us e a = (e, a)
+  trailing-cond invalid u k us e a = tt
+
+  pub taken-trailing : (k : ℕ) (us : List ℕ) → AllTrailing F (taken F k us)
+  taken-trailing zero us = tt
+  taken-trailing (suc k) [] = tt
+  taken-trailing (suc k) (u ∷ us) = trailing-cond (F .role u) u k us refl (taken-trailing k us)
+
+  full-cond : (b : Bool) (u k : ℕ) (us : List ℕ) → length (cond b (u ∷ taken F k us) []) ≡ suc k → (length (taken F k us) ≡ k → taken F k us ≡ take k us)
+      → cond b (u ∷ taken F k us) [] ≡ u ∷ take k us
+  full-cond true u k us e f = ap {B = List ℕ} (λ (x : List ℕ). u ∷ x) (f (omega arith))
+  full-cond false u k us e f = absurd (omega arith)
+
+  -- what a lead takes in full is the next part of the text
+  pub taken-full : (k : ℕ) (us : List ℕ) → length (taken F k us) ≡ k → taken F k us ≡ take k us
+  taken-full zero us e = refl
+  taken-full (suc k) [] e = refl
+  taken-full (suc k) (u ∷ us) e = full-cond (isTrailing (F .role u)) u k us e (taken-full k us)
+
+  pub sequences-after : (s : List ℕ) (k : ℕ) → sequencesAfter F s k ≡ sequences F (drop k s)
+  sequences-after [] zero = refl
+  sequences-after [] (suc k) = refl
+  sequences-after (u ∷ us) zero = refl
+  sequences-after (u ∷ us) (suc k) = sequences-after us k
+
+  -- the equation that a reader goes by: the first sequence, then those of the text behind it
+  pub sequences-step : (u : ℕ) (us : List ℕ) → sequences F (u ∷ us) ≡ firstOf F u us ∷ sequences F (drop (length (firstOf F u us .rest)) us)
+  sequences-step u us = rw (← sequences-after us (length (firstOf F u us .rest)))
