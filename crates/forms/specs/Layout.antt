@@ -57,6 +57,14 @@ valueOf L c =
 abbrev pub limitOf : ℕ → Row → ℕ → ℕ
 limitOf R r k = r .origin + (r .last + 1 - r .first) * R ^ k
 
+abbrev pub rowLimit : Layout → ℕ → ℕ
+rowLimit L k = limitOf (L .radix) (rowAt L k) k
+
+-- the lowest value of k trailing units: all below fit an earlier row
+abbrev pub lowestOf : Layout → ℕ → ℕ
+lowestOf L zero = 0
+lowestOf L (suc k) = rowLimit L k
+
 abbrev pub digits : ℕ → ℕ → ℕ → ℕ → List ℕ
 digits low R zero v = []
 digits low R (suc k) v = (low + v / R ^ k) ∷ digits low R k (v % R ^ k)

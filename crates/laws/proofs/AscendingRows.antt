@@ -9,10 +9,10 @@ use lib.Dec.{leb, ltb, eqb}
 use borrow.Author.Tests.{ltb-true, leb-true, eqb-true}
 use lib.ListN.{length, getD}
 use Rattle.forms.specs.Form.{Role, lead, trailing, invalid}
-use Rattle.forms.specs.Layout.{Row, row, Layout, within, orLead, leadIn, roleOf, rowAt, limitOf}
+use Rattle.forms.specs.Layout.{Row, row, Layout, within, orLead, leadIn, roleOf, rowAt, limitOf, rowLimit}
 use Rattle.laws.proofs.Table.{and-left, and-right}
 use Rattle.laws.proofs.Rows.{within-in, within-below, trails, trails-below, trails-above}
-use Rattle.laws.proofs.LayoutLaws.{Fit, rowLimit}
+use Rattle.laws.proofs.LayoutLaws.{Fit}
 
 -- the row begins at `from` or later and keeps off the trailing units; its values begin at 0 and end at `before` or later
 abbrev pub ascendingRow : ℕ → ℕ → ℕ → ℕ → Row → ℕ → Bool

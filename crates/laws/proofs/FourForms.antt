@@ -10,12 +10,12 @@ use lib.Dec.{ltb}
 use Rattle.forms.specs.declared.Fault.{Fault}
 use Rattle.forms.specs.declared.Fault.the-variants.{Unrepresentable}
 use Rattle.forms.specs.Form.{Role, lead, trailing, invalid}
-use Rattle.forms.specs.Layout.{Layout, roleOf, rowAt}
+use Rattle.forms.specs.Layout.{Layout, roleOf, rowAt, rowLimit}
 use Rattle.forms.specs.Exchange.{i8Of, ebcdicOf}
 use Rattle.forms.specs.Forms.{byteLayout, isSurrogate, utf16Layout, ucs4Layout, fssUtf, i8, utfEbcdic, utf16, ucs4}
 use Rattle.laws.proofs.FormLaws.{Laws}
 use Rattle.laws.proofs.Rows.{within-in, within-below, within-above, trails-in, trails-below, trails-above}
-use Rattle.laws.proofs.LayoutLaws.{Fit, laws, rowLimit}
+use Rattle.laws.proofs.LayoutLaws.{Fit, laws}
 use Rattle.laws.proofs.AscendingRows.{ascending-fits}
 use Rattle.laws.proofs.Exchanged.{exchanged-laws}
 use Rattle.laws.proofs.ExchangeTable.{there, again}
@@ -28,6 +28,19 @@ i8-fits = ascending-fits (byteLayout 5 7) refl
 
 pub ucs4-fits : Fit ucs4Layout
 ucs4-fits = ascending-fits ucs4Layout refl
+
+-- "In FSS-UTF, FE and FF lead nothing."
+pub fssUtf-no-lead : (u : ℕ) → 0xFE ≤ u → roleOf (byteLayout 6 6) u ≡ invalid
+fssUtf-no-lead u h =
+    rw (
+      trails-above 0x80 0x40 u (omega arith),
+      within-above 0xFC 0xFD u (omega arith),
+      within-above 0xF8 0xFB u (omega arith),
+      within-above 0xF0 0xF7 u (omega arith),
+      within-above 0xE0 0xEF u (omega arith),
+      within-above 0xC0 0xDF u (omega arith),
+      within-above 0 0x7F u (omega arith),
+    )
 
 -- UTF-16: a value that is carried is no surrogate
 not-surrogate : (x y : Bool) → cond (x || y) (some Unrepresentable) none ≡ none → x ≡ false

@@ -13,14 +13,11 @@ use borrow.Author.Tests.{ltb-true, ltb-false, lt-ltb, le-ltb, le-leb, lt-leb}
 use lib.ListN.{length, getD}
 use Rattle.forms.specs.declared.Fault.{Fault}
 use Rattle.forms.specs.Form.{Role, lead, trailing, invalid, Sequence, sequence, units, Form, Content, character, mark, isShorter, overlong, carried, fullContent, unless, encode}
-use Rattle.forms.specs.Layout.{Row, row, Layout, leadIn, roleOf, rowAt, number, valueOf, limitOf, digits, spelled, shortestIn, formOf}
+use Rattle.forms.specs.Layout.{Row, row, Layout, leadIn, roleOf, rowAt, number, valueOf, limitOf, rowLimit, lowestOf, digits, spelled, shortestIn, formOf}
 use Rattle.laws.proofs.Sequences.{Full, AllTrailing, same-units}
 use Rattle.laws.proofs.FormLaws.{Reads, Laws}
 use Rattle.laws.proofs.Digits.{IsDigit, AllDigits, digit-lt, number-lt, quotient, remainder, digits-number, length-digits, number-digits, digits-all}
 use Rattle.laws.proofs.Rows.{trails, trails-true, trails-in, trailing-lead, LeadRow, lead-row, no-trailing-row, SpellingRow, spelling-row, spelled-below}
-
-abbrev pub rowLimit : Layout → ℕ → ℕ
-rowLimit L k = limitOf (L .radix) (rowAt L k) k
 
 -- what the rows of a layout have to satisfy
 pub record Fit (L : Layout) : Type 0 where
@@ -291,11 +288,6 @@ module _ (L : Layout) (fits : Fit L) where
 
   pub laws : Laws F
   laws = record { legal = legal; only = only; small = small; reach = λ u k h. in-row u k h .inside }
-
--- the lowest value of k trailing units: the limit of the row before
-abbrev pub lowestOf : Layout → ℕ → ℕ
-lowestOf L zero = 0
-lowestOf L (suc k) = rowLimit L k
 
 -- the test that a reader makes for fault 5: against the lowest value of the length
 module _ (L : Layout) (fits : Fit L) (rise : (k : ℕ) → suc k < length (L .rows) → rowLimit L k ≤ rowLimit L (suc k)) where
