@@ -13,7 +13,7 @@ use Rattle.forms.specs.Layout.{roleOf}
 use Rattle.forms.specs.Exchange.{exchange, i8Of, ebcdicOf}
 use Rattle.forms.specs.Forms.{byteLayout}
 use Rattle.laws.proofs.Table.{allBelow, below}
-use Rattle.laws.proofs.Rows.{trails-above, within-above}
+use Rattle.laws.proofs.Rows.{invalid-above}
 
 pub inverse-of-exchange : (b : ℕ) → b < 0x100 → ebcdicOf (i8Of b) ≡ b
 inverse-of-exchange b h = eqb-true (ebcdicOf (i8Of b)) b (below 0x100 (λ x. eqb (ebcdicOf (i8Of x)) x) refl b h)
@@ -30,17 +30,7 @@ inverse-byte x h = ltb-true (ebcdicOf x) 0x100 (below 0x100 (λ y. ltb (ebcdicOf
 
 -- a number that is no byte is invalid in I8
 no-byte : (x : ℕ) → 0x100 ≤ x → roleOf (byteLayout 5 7) x ≡ invalid
-no-byte x h =
-    rw (
-      trails-above 0xA0 0x20 x (omega arith),
-      within-above 0xFE 0xFF x (omega arith),
-      within-above 0xFC 0xFD x (omega arith),
-      within-above 0xF8 0xFB x (omega arith),
-      within-above 0xF0 0xF7 x (omega arith),
-      within-above 0xE0 0xEF x (omega arith),
-      within-above 0xC0 0xDF x (omega arith),
-      within-above 0 0x9F x (omega arith),
-    )
+no-byte x h = invalid-above (byteLayout 5 7) 0x100 x refl (omega arith) h
 
 pub there : (b : ℕ) → roleOf (byteLayout 5 7) (i8Of b) ≢ invalid → ebcdicOf (i8Of b) ≡ b
 there b n = go (decLt b 0x100)

@@ -14,7 +14,7 @@ use Rattle.forms.specs.Layout.{Layout, roleOf, rowAt, rowLimit}
 use Rattle.forms.specs.Exchange.{i8Of, ebcdicOf}
 use Rattle.forms.specs.Forms.{byteLayout, isSurrogate, utf16Layout, ucs4Layout, fssUtf, i8, utfEbcdic, utf16, ucs4}
 use Rattle.laws.proofs.FormLaws.{Laws}
-use Rattle.laws.proofs.Rows.{within-in, within-below, within-above, trails-in, trails-below, trails-above}
+use Rattle.laws.proofs.Rows.{within-in, within-below, within-above, trails-in, trails-below, trails-above, invalid-above}
 use Rattle.laws.proofs.LayoutLaws.{Fit, laws}
 use Rattle.laws.proofs.AscendingRows.{ascending-fits}
 use Rattle.laws.proofs.Exchanged.{exchanged-laws}
@@ -30,17 +30,11 @@ pub ucs4-fits : Fit ucs4Layout
 ucs4-fits = ascending-fits ucs4Layout refl
 
 -- "In FSS-UTF, FE and FF lead nothing."
-pub fssUtf-no-lead : (u : ℕ) → 0xFE ≤ u → roleOf (byteLayout 6 6) u ≡ invalid
-fssUtf-no-lead u h =
-    rw (
-      trails-above 0x80 0x40 u (omega arith),
-      within-above 0xFC 0xFD u (omega arith),
-      within-above 0xF8 0xFB u (omega arith),
-      within-above 0xF0 0xF7 u (omega arith),
-      within-above 0xE0 0xEF u (omega arith),
-      within-above 0xC0 0xDF u (omega arith),
-      within-above 0 0x7F u (omega arith),
-    )
+pub fssUtf-invalid : (u : ℕ) → 0xFE ≤ u → roleOf (byteLayout 6 6) u ≡ invalid
+fssUtf-invalid u h = invalid-above (byteLayout 6 6) 0xFE u refl (omega arith) h
+
+pub ucs4-invalid : (u : ℕ) → 0x80000000 ≤ u → roleOf ucs4Layout u ≡ invalid
+ucs4-invalid u h = invalid-above ucs4Layout 0x80000000 u refl (omega arith) h
 
 -- UTF-16: a value that is carried is no surrogate
 not-surrogate : (x y : Bool) → cond (x || y) (some Unrepresentable) none ≡ none → x ≡ false
@@ -89,6 +83,10 @@ utf16-bound : (k : ℕ) → k < 2 → rowLimit utf16Layout k ≤ 0x80000000
 utf16-bound zero h = omega arith
 utf16-bound (suc zero) h = omega arith
 utf16-bound (suc (suc k)) h = absurd (omega arith)
+
+pub utf16-rise : (k : ℕ) → suc k < 2 → rowLimit utf16Layout k ≤ rowLimit utf16Layout (suc k)
+utf16-rise zero h = omega arith
+utf16-rise (suc k) h = absurd (omega arith)
 
 pub utf16-fits : Fit utf16Layout
 utf16-fits = record { positive = utf16-positive; above = utf16-above; leads = utf16-leads; bound = utf16-bound }

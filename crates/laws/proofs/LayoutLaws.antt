@@ -12,7 +12,7 @@ use lib.Dec.{leb, ltb}
 use borrow.Author.Tests.{ltb-true, ltb-false, lt-ltb, le-ltb, le-leb, lt-leb}
 use lib.ListN.{length, getD}
 use Rattle.forms.specs.declared.Fault.{Fault}
-use Rattle.forms.specs.Form.{Role, lead, trailing, invalid, Sequence, sequence, units, Form, Content, character, mark, isShorter, overlong, carried, fullContent, unless, encode}
+use Rattle.forms.specs.Form.{Role, lead, trailing, invalid, Sequence, sequence, units, Form, isTrailing, Content, character, mark, isShorter, overlong, carried, fullContent, unless, encode}
 use Rattle.forms.specs.Layout.{Row, row, Layout, leadIn, roleOf, rowAt, number, valueOf, limitOf, rowLimit, lowestOf, digits, spelled, shortestIn, formOf}
 use Rattle.laws.proofs.Sequences.{Full, AllTrailing, same-units}
 use Rattle.laws.proofs.FormLaws.{Reads, Laws}
@@ -53,6 +53,14 @@ module _ (L : Layout) (fits : Fit L) where
 
   pub trailing-digit : (u : ℕ) → roleOf L u ≡ trailing → IsDigit (L .low) (L .radix) u
   trailing-digit u h = trailing-cond u (trails (L .low) (L .radix) u) refl h
+
+  pub not-trailing : (u : ℕ) → (IsDigit (L .low) (L .radix) u → ⊥) → isTrailing (roleOf L u) ≡ false
+  not-trailing u n = go (roleOf L u) (λ e. n (trailing-digit u e))
+    where
+      go : (o : Role) → (o ≡ trailing → ⊥) → isTrailing o ≡ false
+      go (lead k) f = refl
+      go trailing f = absurd (f refl)
+      go invalid f = refl
 
   pub digit-trailing : (u : ℕ) → IsDigit (L .low) (L .radix) u → roleOf L u ≡ trailing
   digit-trailing u h = rw (trails-in (L .low) (L .radix) u (h .0) (h .1))

@@ -8,3 +8,4 @@ pub mod AscendingRows
 pub mod Exchanged
 pub mod ExchangeTable
 pub mod FourForms
+pub mod Reading

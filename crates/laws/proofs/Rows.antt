@@ -10,7 +10,7 @@ use lib.Dec.{leb, ltb}
 use borrow.Author.Tests.{ltb-true, ltb-false, leb-true, lt-ltb, le-ltb, le-leb, lt-leb}
 use lib.ListN.{length, getD}
 use Rattle.forms.specs.Form.{Role, lead, trailing, invalid}
-use Rattle.forms.specs.Layout.{Row, row, Layout, within, orLead, leadIn, limitOf, spelled, shortestIn}
+use Rattle.forms.specs.Layout.{Row, row, Layout, within, orLead, leadIn, roleOf, limitOf, spelled, shortestIn}
 use Rattle.laws.proofs.Table.{and-left, and-right}
 
 and-false : (a : Bool) → (a && false) ≡ false
@@ -113,6 +113,21 @@ or-trailing invalid b k f h = not-trailing-here b k h
 pub no-trailing-row : (rs : List Row) (k u : ℕ) → leadIn rs k u ≡ trailing → ⊥
 no-trailing-row [] k u h = invalid-trailing h
 no-trailing-row (r ∷ rs) k u h = or-trailing (leadIn rs (suc k) u) (within (r .first) (r .last) u) k (no-trailing-row rs (suc k) u) h
+
+-- the rows end below `top`
+abbrev pub rowsBelow : ℕ → List Row → Bool
+rowsBelow top [] = true
+rowsBelow top (r ∷ rs) = ltb (r .last) top && rowsBelow top rs
+
+no-row-above : (rs : List Row) (k top u : ℕ) → rowsBelow top rs ≡ true → top ≤ u → leadIn rs k u ≡ invalid
+no-row-above [] k top u e h = refl
+no-row-above (r ∷ rs) k top u e h =
+    let l = ltb-true (r .last) top (and-left (ltb (r .last) top) _ e) in
+    rw (no-row-above rs (suc k) top u (and-right (ltb (r .last) top) _ e) h, within-above (r .first) (r .last) u (omega arith))
+
+-- a unit above the rows and the trailing units is invalid
+pub invalid-above : (L : Layout) (top u : ℕ) → rowsBelow top (L .rows) ≡ true → L .low + L .radix ≤ top → top ≤ u → roleOf L u ≡ invalid
+invalid-above L top u e l h = rw (trails-above (L .low) (L .radix) u (omega arith), no-row-above (L .rows) 0 top u e h)
 
 -- the row that spells v, where the first row is that of k trailing units: the first that v fits
 pub record SpellingRow (L : Layout) (rs : List Row) (k v : ℕ) : Type 0 where

@@ -4,7 +4,7 @@ use mathlib.Core.Path.{refl}
 use Rattle.forms.specs.Forms.{byteLayout}
 use Rattle.laws.proofs.AscendingRows.{leads-of-row}
 use Rattle.laws.proofs.LayoutLaws.{digit-trailing}
-use Rattle.laws.proofs.FourForms.{fssUtf-fits, fssUtf-no-lead}
+use Rattle.laws.proofs.FourForms.{fssUtf-fits, fssUtf-invalid}
 use Rattle.tables.proofs.role_fss_utf.Statement.{statement}
 use Rattle.tables.proofs.role_fss_utf.Tie as tie
 
@@ -30,7 +30,7 @@ returns-7 : tie.Need-returns-7
 returns-7 c = rw (leads-of-row (byteLayout 6 6) refl 5 (c .before .before .before .before .before .before .before .args .byte) (omega arith) (omega arith) (omega arith))
 
 returns-8 : tie.Need-returns-8
-returns-8 c = rw (fssUtf-no-lead (c .before .before .before .before .before .before .before .args .byte) (omega arith))
+returns-8 c = rw (fssUtf-invalid (c .before .before .before .before .before .before .before .args .byte) (omega arith))
 
 pub role-fss-utf-spec : {M : Type 1} → statement M
 role-fss-utf-spec =

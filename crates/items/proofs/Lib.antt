@@ -1,0 +1,4 @@
+pub mod WholeUnits
+pub mod Plain
+pub mod Tails
+pub mod ByteItems

@@ -1,0 +1,2 @@
+pub mod ItemAt
+pub mod Tail
