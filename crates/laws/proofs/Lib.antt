@@ -9,3 +9,4 @@ pub mod Exchanged
 pub mod ExchangeTable
 pub mod FourForms
 pub mod Reading
+pub mod Spans

@@ -1,0 +1,31 @@
+-- Reading on from a cursor, step by step: at most so many steps, until End.
+use Prim.Native.Nat.{ℕ, zero, suc, _+_}
+use mathlib.Core.List.{List, [], _∷_}
+use Rattle.forms.specs.declared.Fault.{Fault}
+use Rattle.forms.specs.declared.Item.{Item}
+use Rattle.forms.specs.declared.Item.the-variants.{Character, Mark}
+use Rattle.forms.specs.Fault.{refusal}
+use Rattle.forms.specs.Form.{Form, span}
+use Rattle.reader.specs.Step.{cursor, stepAt}
+use Rattle.reader.specs.declared.Cursor.{Cursor}
+use Rattle.reader.specs.declared.Step.{Step}
+use Rattle.reader.specs.declared.Step.the-variants.{Next, End, Refused}
+
+abbrev pub orEnd : Step → (Item → Cursor → List Item) → List Item
+orEnd (Next i c) f = f i c
+orEnd (End c) f = []
+orEnd (Refused r) f = []
+
+abbrev pub stepsFrom : Form → List ℕ → ℕ → Cursor → List Item
+stepsFrom F s zero c = []
+stepsFrom F s (suc n) c = orEnd (stepAt F s c) (λ i d. i ∷ stepsFrom F s n d)
+
+-- an item, a step, p units further on
+abbrev pub movedItem : ℕ → Item → Item
+movedItem p (Character v q) = Character v (span (p + q .offset) (q .length))
+movedItem p (Mark f q) = Mark f (span (p + q .offset) (q .length))
+
+abbrev pub movedStep : ℕ → Step → Step
+movedStep p (Next i c) = Next (movedItem p i) (cursor (p + c .offset))
+movedStep p (End c) = End (cursor (p + c .offset))
+movedStep p (Refused r) = Refused (refusal (r .fault) (p + r .offset))
