@@ -54,17 +54,32 @@ pub fn item_at(form: ByteForm, text: &[u8], at: usize) -> Item
     let byte = text[at];
     let role = tables::role(form, byte);
     if role == 9 {
-        return Item::Mark(Fault::StrayTrailing, Span { offset: at, length: 1 });
+        return Item::Mark(
+            Fault::StrayTrailing,
+            Span {
+                offset: at,
+                length: 1,
+            },
+        );
     }
     if role == 0 {
-        return Item::Mark(Fault::InvalidUnit, Span { offset: at, length: 1 });
+        return Item::Mark(
+            Fault::InvalidUnit,
+            Span {
+                offset: at,
+                length: 1,
+            },
+        );
     }
     let asked = (role - 1) as usize;
     let lead = wide(tables::plain(form, byte) - tables::lead_base(form, asked));
     let tail = tail_at(form, text, at + 1, asked, lead);
     let count = tail.count;
     let value = tail.value;
-    let span = Span { offset: at, length: count + 1 };
+    let span = Span {
+        offset: at,
+        length: count + 1,
+    };
     if count < asked {
         return Item::Mark(Fault::MissingTrailing, span);
     }

@@ -13,7 +13,10 @@ pub fn item_at(text: &[u32], at: usize) -> Item
     ensures { λ r. ⌜ r ≡ itemAt ucs4 (now (text .entry)) at ⌝ }
 {
     let unit = text[at];
-    let span = Span { offset: at, length: 1 };
+    let span = Span {
+        offset: at,
+        length: 1,
+    };
     if 0x80000000 <= unit {
         return Item::Mark(Fault::InvalidUnit, span);
     }

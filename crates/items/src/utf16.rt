@@ -19,7 +19,10 @@ pub fn item_at(text: &[u16], at: usize) -> Item
     ensures { λ r. ⌜ r ≡ itemAt utf16 (now (text .entry)) at ⌝ }
 {
     let unit = wide(text[at]);
-    let one = Span { offset: at, length: 1 };
+    let one = Span {
+        offset: at,
+        length: 1,
+    };
     if unit < 0xD800 {
         return Item::Character(unit, one);
     }
@@ -41,6 +44,9 @@ pub fn item_at(text: &[u16], at: usize) -> Item
     }
     Item::Character(
         0x10000 + (unit - 0xD800) * 0x400 + (next - 0xDC00),
-        Span { offset: at, length: 2 },
+        Span {
+            offset: at,
+            length: 2,
+        },
     )
 }

@@ -74,7 +74,7 @@ module _ (F : Form) where
   moved-over p [] = rw (add-zero p)
   moved-over p (u ∷ us) =
       let e : p + (spanOf (itemOf F p (firstOf F u us))) .length ≡ p + (0 + (spanOf (itemOf F 0 (firstOf F u us))) .length) =
-          ap (λ (n : ℕ). p + n) (length-of F p u us ∙ sym (length-of F 0 u us) ∙ omega arith) in
+      ap (λ (n : ℕ). p + n) (length-of F p u us ∙ sym (length-of F 0 u us) ∙ omega arith) in
       rw (e, moved-item p (firstOf F u us))
 
   pub reads-from-there : (s : List ℕ) (p : ℕ) → length s ≤ limit → p ≤ length s → stepAt F s (cursor p) ≡ movedStep p (stepAt F (drop p s) (cursor 0))

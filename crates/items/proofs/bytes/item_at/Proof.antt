@@ -77,9 +77,11 @@ add-t21 : tie.Need-add-t21
 add-t21 c =
     let w = c .before in
     let r = w .before .before .before .before .before in
-    omega
-    (arith, count-most (form r) (s r) (p r) (n r) (r .role .ensures) (w .before .before .before .before .if1 .left) (w .before .before .before .if2 .left)
-    (w .wide .result) (c .tail-at .result .count) (c .tail-at .result .value) (own w) (c .tail-at .ensures))
+    omega (
+      arith,
+      count-most (form r) (s r) (p r) (n r) (r .role .ensures) (w .before .before .before .before .if1 .left) (w .before .before .before .if2 .left)
+          (w .wide .result) (c .tail-at .result .count) (c .tail-at .result .value) (own w) (c .tail-at .ensures),
+    )
 
 returns-3 : tie.Need-returns-3
 returns-3 c =

@@ -2,8 +2,8 @@
 use borrow.Author.Needs.{needs}
 use Rattle.forms.specs.Exchange.{i8Of}
 use Rattle.laws.proofs.Table.{tabulated}
-use Rattle.tables.proofs.exchange.Statement.{statement}
-use Rattle.tables.proofs.exchange.Tie as tie
+use Rattle.tables.proofs.ebcdic.exchange.Statement.{statement}
+use Rattle.tables.proofs.ebcdic.exchange.Tie as tie
 
 array-read-result : tie.Need-array-read-result
 array-read-result c = search needs

@@ -2,8 +2,8 @@
 use borrow.Author.Needs.{needs}
 use Rattle.forms.specs.Flags.{flagOf}
 use Rattle.laws.proofs.Table.{tabulated}
-use Rattle.tables.proofs.flag.Statement.{statement}
-use Rattle.tables.proofs.flag.Tie as tie
+use Rattle.tables.proofs.ebcdic.flag.Statement.{statement}
+use Rattle.tables.proofs.ebcdic.flag.Tie as tie
 
 array-read-result : tie.Need-array-read-result
 array-read-result c = search needs

@@ -2,8 +2,8 @@
 use borrow.Author.Needs.{needs}
 use Rattle.forms.specs.Exchange.{ebcdicOf}
 use Rattle.laws.proofs.Table.{tabulated}
-use Rattle.tables.proofs.inverse.Statement.{statement}
-use Rattle.tables.proofs.inverse.Tie as tie
+use Rattle.tables.proofs.ebcdic.inverse.Statement.{statement}
+use Rattle.tables.proofs.ebcdic.inverse.Tie as tie
 
 array-read-result : tie.Need-array-read-result
 array-read-result c = search needs

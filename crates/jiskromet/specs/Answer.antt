@@ -1,0 +1,27 @@
+-- The numbers of an answer as C sees it: fault numbers, places and counts of document 01.
+use Prim.Native.Nat.{ℕ}
+use Rattle.forms.specs.declared.Item.{Item}
+use Rattle.forms.specs.declared.Item.the-variants.{Character, Mark}
+use Rattle.forms.specs.declared.Refusal.{Refusal}
+use Rattle.forms.specs.Fault.{numberOf}
+use Rattle.reader.specs.declared.Step.{Step}
+use Rattle.reader.specs.declared.Step.the-variants.{Next, End, Refused}
+use Rattle.jiskromet.specs.declared.JkItem.{JkItem}
+
+abbrev pub jkItem : ℕ → ℕ → ℕ → ℕ → ℕ → JkItem
+jkItem k f v p n = record { kind = k; fault = f; value = v; offset = p; length = n }
+
+-- kind 1 is a character, 2 a mark
+abbrev pub shownItem : Item → JkItem
+shownItem (Character v p) = jkItem 1 0 v (p .offset) (p .length)
+shownItem (Mark f p) = jkItem 2 (numberOf f) 0 (p .offset) (p .length)
+
+-- kind 3 is a refusal, with zero for the length
+abbrev pub refusedItem : Refusal → JkItem
+refusedItem r = jkItem 3 (numberOf (r .fault)) 0 (r .offset) 0
+
+-- kind 0 is End
+abbrev pub itemAnswer : Step → JkItem
+itemAnswer (Next i c) = shownItem i
+itemAnswer (End c) = jkItem 0 0 0 (c .offset) 0
+itemAnswer (Refused r) = refusedItem r

@@ -1,0 +1,102 @@
+// What a gateway links: the calls of the library under their C names, as `include/jiskromet.h` declares them.
+//
+// Each answer is a struct of numbers. `specs/Answer` says which number stands for which case.
+use forms::Item;
+use forms::Refusal;
+use reader::Cursor;
+use reader::Step;
+ghost use mathlib.Core.Path.{_≡_};
+ghost use Rattle.forms.specs.Forms.{fssUtf, utfEbcdic, utf16, ucs4};
+ghost use Rattle.reader.specs.Step.{cursor, stepAt};
+ghost use Rattle.jiskromet.specs.Answer.{itemAnswer, shownItem, refusedItem};
+
+#[repr(C)]
+pub struct JkItem {
+    pub kind: u32,
+    pub fault: u32,
+    pub value: u32,
+    pub offset: u64,
+    pub length: u64,
+}
+
+#[no_mangle]
+pub extern "C" fn jk_fss_utf_item_at(text: &[u8], offset: usize) -> JkItem
+    ensures { λ r. ⌜ r ≡ itemAnswer (stepAt fssUtf (now (text .entry)) (cursor offset)) ⌝ }
+{
+    let at = Cursor { offset };
+    item_answer(at.step_fss_utf(text))
+}
+
+#[no_mangle]
+pub extern "C" fn jk_utf_ebcdic_item_at(text: &[u8], offset: usize) -> JkItem
+    ensures { λ r. ⌜ r ≡ itemAnswer (stepAt utfEbcdic (now (text .entry)) (cursor offset)) ⌝ }
+{
+    let at = Cursor { offset };
+    item_answer(at.step_utf_ebcdic(text))
+}
+
+#[no_mangle]
+pub extern "C" fn jk_utf16_item_at(text: &[u16], offset: usize) -> JkItem
+    ensures { λ r. ⌜ r ≡ itemAnswer (stepAt utf16 (now (text .entry)) (cursor offset)) ⌝ }
+{
+    let at = Cursor { offset };
+    item_answer(at.step_utf16(text))
+}
+
+#[no_mangle]
+pub extern "C" fn jk_ucs4_item_at(text: &[u32], offset: usize) -> JkItem
+    ensures { λ r. ⌜ r ≡ itemAnswer (stepAt ucs4 (now (text .entry)) (cursor offset)) ⌝ }
+{
+    let at = Cursor { offset };
+    item_answer(at.step_ucs4(text))
+}
+
+fn item_answer(step: Step) -> JkItem
+    ensures { λ r. ⌜ r ≡ itemAnswer step ⌝ }
+{
+    match step {
+        Step::End(at) => JkItem {
+            kind: 0,
+            fault: 0,
+            value: 0,
+            offset: at.offset as u64,
+            length: 0,
+        },
+        Step::Next(item, _) => shown_item(item),
+        Step::Refused(refusal) => refused_item(refusal),
+    }
+}
+
+fn shown_item(item: Item) -> JkItem
+    ensures { λ r. ⌜ r ≡ shownItem item ⌝ }
+{
+    match item {
+        Item::Character(value, span) => JkItem {
+            kind: 1,
+            fault: 0,
+            value,
+            offset: span.offset as u64,
+            length: span.length as u64,
+        },
+        Item::Mark(fault, span) => JkItem {
+            kind: 2,
+            fault: forms::number(fault),
+            value: 0,
+            offset: span.offset as u64,
+            length: span.length as u64,
+        },
+    }
+}
+
+fn refused_item(refusal: Refusal) -> JkItem
+    ensures { λ r. ⌜ r ≡ refusedItem refusal ⌝ }
+{
+    let fault = refusal.fault;
+    JkItem {
+        kind: 3,
+        fault: forms::number(fault),
+        value: 0,
+        offset: refusal.offset as u64,
+        length: 0,
+    }
+}
