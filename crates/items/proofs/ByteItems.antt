@@ -9,9 +9,9 @@ use Rattle.forms.specs.declared.Fault.the-variants.{MissingTrailing, StrayTrail
 use Rattle.forms.specs.declared.Item.{Item}
 use Rattle.forms.specs.declared.Item.the-variants.{Character, Mark}
 use Rattle.forms.specs.Form.{Role, lead, Sequence, sequence, Form, taken, firstOf, span, itemOf}
-use Rattle.forms.specs.Layout.{Layout, roleOf, rowAt, number, valueOf, rowLimit, lowestOf, formOf}
+use Rattle.forms.specs.Layout.{Layout, roleOf, rowAt, number, valueOf, lowestOf, formOf}
 use Rattle.laws.proofs.Sequences.{taken-most}
-use Rattle.laws.proofs.LayoutLaws.{InRow, value-limit}
+use Rattle.laws.proofs.LayoutLaws.{InRow, value-small}
 use Rattle.laws.proofs.AscendingRows.{row-of}
 use Rattle.laws.proofs.Reading.{reads-trailing, reads-invalid, reads-missing, reads-overlong, reads-character, full}
 use Rattle.tables.specs.ByteForms.{byteForm, layoutOf, plainOf, roleNumber}
@@ -91,10 +91,7 @@ module _ (f : ByteForm) (s : List ℕ) (p n : ℕ) (e : n ≡ roleNumber (byteFo
               (tail .joined ∙ rw (l, count-is)))
 
           small : value < 0x80000000
-          small =
-              let v = value-limit L (fits f) (sequence u (taken (formOf L) k us)) (full L (fits f) (rise f) p u us k value leads whole is) in
-              let w : valueOf L (sequence u (taken (formOf L) k us)) < rowLimit L k = subst (λ (m : ℕ). valueOf L (sequence u (taken (formOf L) k us)) < rowLimit L m) whole v in
-              omega (arith, is, row-of L (passes f) k (in-row .inside) .bound)
+          small = omega (arith, is, value-small L (fits f) (sequence u (taken (formOf L) k us)) (full L (fits f) (rise f) p u us k value leads whole is))
 
           same-span : (g : ℕ → Item) → g (count + 1) ≡ g (k + 1)
           same-span g = ap (λ (m : ℕ). g (m + 1)) count-is

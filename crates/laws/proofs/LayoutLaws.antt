@@ -108,6 +108,10 @@ module _ (L : Layout) (fits : Fit L) where
       value-lt ((rowAt L k) .first) ((rowAt L k) .last) ((rowAt L k) .origin) (c .first) (L .radix ^ k)
       (number (L .low) (L .radix) (c .rest)) (l .from) (l .to) (number-lt (L .low) (L .radix) (c .rest) (all-digits (c .rest) (f .trail)))
 
+  -- no full sequence has a value above 7FFFFFFF
+  pub value-small : (c : Sequence) → Full F c → valueOf L c < 0x80000000
+  value-small c f = omega (arith, value-limit c f, fits .bound (length (c .rest)) (in-row (c .first) (length (c .rest)) (f .leads) .inside))
+
   -- and its row spells it as that sequence
   spelled-head : (a o u P n : ℕ) → a ≤ u → n < P → a + (o + ((u - a) * P + n) - o) / P ≡ u
   spelled-head a o u P n h l = rw (add-sub-cancel-left o ((u - a) * P + n), quotient (u - a) n P l) (omega arith)
@@ -219,9 +223,7 @@ module _ (L : Layout) (fits : Fit L) where
       rw (n .free) (ap (F .shortest) (sym (n .value)) ∙ only-shortest c (r .full) (n .short))
 
   small : (c : Sequence) (v : ℕ) → Reads F c v → v < 0x80000000
-  small c v r =
-      omega
-      (arith, value-limit c (r .full), fine c v (r .shows) .value, fits .bound (length (c .rest)) (in-row (c .first) (length (c .rest)) (r .full .leads) .inside))
+  small c v r = omega (arith, value-small c (r .full), fine c v (r .shows) .value)
 
   -- what a value is spelled as is full, and reads as the value
   abbrev spelledHead : ℕ → ℕ → ℕ

@@ -10,3 +10,4 @@ pub mod ExchangeTable
 pub mod FourForms
 pub mod Reading
 pub mod Spans
+pub mod LayoutTable

@@ -1,0 +1,22 @@
+-- The rules agree with document 01's tables, as printed: the byte layouts, and the fault numbers.
+use Prim.Native.Nat.{ℕ}
+use mathlib.Core.Path.{_≡_, refl}
+use mathlib.Core.List.{List, [], _∷_, map}
+use Rattle.forms.specs.declared.Fault.{Fault}
+use Rattle.forms.specs.declared.Fault.the-variants.{SourceTooLong, MissingTrailing, StrayTrailing, InvalidUnit, Overlong, Unrepresentable, BufferTooShort, ValueTooLarge, OffsetOutOfRange}
+use Rattle.forms.specs.Fault.{numberOf}
+use Rattle.forms.specs.Forms.{byteLayout}
+use Rattle.forms.specs.LayoutTable.{fssUtfTable, i8Table, tableOf}
+
+pub fssUtf-table : tableOf (byteLayout 6 6) ≡ fssUtfTable
+fssUtf-table = refl
+
+pub i8-table : tableOf (byteLayout 5 7) ≡ i8Table
+i8-table = refl
+
+pub faults : List Fault
+faults = SourceTooLong ∷ MissingTrailing ∷ StrayTrailing ∷ InvalidUnit ∷ Overlong ∷ Unrepresentable ∷ BufferTooShort ∷ ValueTooLarge ∷ OffsetOutOfRange ∷ []
+
+pub fault-numbers : map numberOf faults ≡ 1 ∷ 2 ∷ 3 ∷ 4 ∷ 5 ∷ 6 ∷ 7 ∷ 8 ∷ 9 ∷ []
+unfolding faults
+fault-numbers = refl
