@@ -1,0 +1,333 @@
+//! What document 01 says of reading, point by point.
+
+use super::{character, each_form, from_i8, mark, one_character, three_ways};
+use crate::library::{JkItem, Linked};
+use crate::reference::{
+    Form, FssUtf, Layout, Reading, Role, Ucs4, Utf16, UtfEbcdic, FSS_UTF, HIGHEST_VALUE, I8,
+    I8_TO_UTF_EBCDIC, UTF_EBCDIC_TO_I8,
+};
+use crate::report::Group;
+
+pub fn check(group: &mut Group) {
+    starred(group);
+    limits_of_lengths(group);
+    other_converters(group);
+    items(group);
+    each_form!(carried(group));
+    flags(group);
+    faults_that_cannot_be(group);
+    each_form!(empty(group));
+}
+
+/// The points marked with a star.
+fn starred(group: &mut Group) {
+    let source = "acceptance point";
+    one_character::<FssUtf>(group, source, 0xA9, &[0xC2, 0xA9]);
+    one_character::<FssUtf>(group, source, 0x2260, &[0xE2, 0x89, 0xA0]);
+    one_character::<FssUtf>(
+        group,
+        source,
+        0x7FFF_FFFF,
+        &[0xFD, 0xBF, 0xBF, 0xBF, 0xBF, 0xBF],
+    );
+    three_ways::<FssUtf>(group, source, &[0xC0, 0x80], &[mark(5, 2)]);
+    three_ways::<FssUtf>(group, source, &[0xFE], &[mark(4, 1)]);
+    let followed = [mark(2, 2), character(0x41, 1)];
+    three_ways::<FssUtf>(group, source, &[0xE2, 0x89, 0x41], &followed);
+    one_character::<FssUtf>(group, source, 0xD800, &[0xED, 0xA0, 0x80]);
+
+    one_character::<UtfEbcdic>(group, source, 0xA0, &[0x47, 0x80]);
+    one_character::<UtfEbcdic>(group, source, 0x400, &[0x9A, 0x80, 0x80]);
+    one_character::<UtfEbcdic>(group, source, 0x4000, &[0xB2, 0xBF, 0x80, 0x80]);
+    one_character::<UtfEbcdic>(group, source, 0x41, &[0xC1]);
+    let highest = [0xE1, 0xFE, 0xFE, 0xFE, 0xFE, 0xFE, 0xFE];
+    one_character::<UtfEbcdic>(group, source, 0x7FFF_FFFF, &highest);
+
+    one_character::<Utf16>(group, source, 0x1_0000, &[0xD800, 0xDC00]);
+    three_ways::<Utf16>(group, source, &[0xDC00], &[mark(3, 1)]);
+}
+
+/// "Both sides of limits", and the limits of the layouts that are not spelled
+/// out there but stand in the table.
+fn limits_of_lengths(group: &mut Group) {
+    let source = "both sides of limits";
+    let fss_utf: [(u32, &[u32]); 12] = [
+        (0x0, &[0x00]),
+        (0x7F, &[0x7F]),
+        (0x80, &[0xC2, 0x80]),
+        (0x7FF, &[0xDF, 0xBF]),
+        (0x800, &[0xE0, 0xA0, 0x80]),
+        (0xFFFF, &[0xEF, 0xBF, 0xBF]),
+        (0x1_0000, &[0xF0, 0x90, 0x80, 0x80]),
+        (0x1F_FFFF, &[0xF7, 0xBF, 0xBF, 0xBF]),
+        (0x20_0000, &[0xF8, 0x88, 0x80, 0x80, 0x80]),
+        (0x3FF_FFFF, &[0xFB, 0xBF, 0xBF, 0xBF, 0xBF]),
+        (0x400_0000, &[0xFC, 0x84, 0x80, 0x80, 0x80, 0x80]),
+        (0x7FFF_FFFF, &[0xFD, 0xBF, 0xBF, 0xBF, 0xBF, 0xBF]),
+    ];
+    for (value, bytes) in fss_utf {
+        one_character::<FssUtf>(group, source, value, bytes);
+    }
+
+    let i8_layout: [(u32, &[u32]); 14] = [
+        (0x0, &[0x00]),
+        (0x9F, &[0x9F]),
+        (0xA0, &[0xC5, 0xA0]),
+        (0x3FF, &[0xDF, 0xBF]),
+        (0x400, &[0xE1, 0xA0, 0xA0]),
+        (0x3FFF, &[0xEF, 0xBF, 0xBF]),
+        (0x4000, &[0xF0, 0xB0, 0xA0, 0xA0]),
+        (0x3_FFFF, &[0xF7, 0xBF, 0xBF, 0xBF]),
+        (0x4_0000, &[0xF8, 0xA8, 0xA0, 0xA0, 0xA0]),
+        (0x3F_FFFF, &[0xFB, 0xBF, 0xBF, 0xBF, 0xBF]),
+        (0x40_0000, &[0xFC, 0xA4, 0xA0, 0xA0, 0xA0, 0xA0]),
+        (0x3FF_FFFF, &[0xFD, 0xBF, 0xBF, 0xBF, 0xBF, 0xBF]),
+        (0x400_0000, &[0xFE, 0xA2, 0xA0, 0xA0, 0xA0, 0xA0, 0xA0]),
+        (0x7FFF_FFFF, &[0xFF, 0xBF, 0xBF, 0xBF, 0xBF, 0xBF, 0xBF]),
+    ];
+    for (value, bytes) in i8_layout {
+        one_character::<UtfEbcdic>(group, source, value, &from_i8(bytes));
+    }
+
+    let utf16: [(u32, &[u32]); 6] = [
+        (0x0, &[0x0000]),
+        (0xD7FF, &[0xD7FF]),
+        (0xE000, &[0xE000]),
+        (0xFFFF, &[0xFFFF]),
+        (0x1_0000, &[0xD800, 0xDC00]),
+        (0x10_FFFF, &[0xDBFF, 0xDFFF]),
+    ];
+    for (value, units) in utf16 {
+        one_character::<Utf16>(group, source, value, units);
+    }
+    for high in [0xD800, 0xDBFF] {
+        three_ways::<Utf16>(group, source, &[high], &[mark(2, 1)]);
+    }
+    for low in [0xDC00, 0xDFFF] {
+        three_ways::<Utf16>(group, source, &[low], &[mark(3, 1)]);
+    }
+
+    for value in [0x0, 0x7FFF_FFFF] {
+        one_character::<Ucs4>(group, source, value, &[value]);
+    }
+    for unit in [0x8000_0000, 0xFFFF_FFFF] {
+        three_ways::<Ucs4>(group, source, &[unit], &[mark(4, 1)]);
+    }
+}
+
+/// "Errors seen in other converters".
+fn other_converters(group: &mut Group) {
+    let source = "error of other converters";
+    let short_then_lead = [mark(2, 2), character(0xA9, 2)];
+    three_ways::<FssUtf>(group, source, &[0xE2, 0x89, 0xC2, 0xA9], &short_then_lead);
+    let short_then_short = [mark(2, 1), mark(2, 1)];
+    three_ways::<FssUtf>(group, source, &[0xC2, 0xE2], &short_then_short);
+    let short_then_lead = [mark(2, 2), character(0xA0, 2)];
+    let bytes = from_i8(&[0xE1, 0xA0, 0xC5, 0xA0]);
+    three_ways::<UtfEbcdic>(group, source, &bytes, &short_then_lead);
+    let short_then_pair = [mark(2, 1), character(0x1_0000, 2)];
+    three_ways::<Utf16>(group, source, &[0xD800, 0xD800, 0xDC00], &short_then_pair);
+
+    // Two surrogate values stay two values.
+    let surrogates = [character(0xD800, 3), character(0xDC00, 3)];
+    three_ways::<FssUtf>(
+        group,
+        source,
+        &[0xED, 0xA0, 0x80, 0xED, 0xB0, 0x80],
+        &surrogates,
+    );
+
+    for second in 0xA0..=0xBF {
+        for third in 0xA0..=0xBF {
+            let bytes = from_i8(&[0xE0, second, third]);
+            three_ways::<UtfEbcdic>(group, source, &bytes, &[mark(5, 3)]);
+        }
+    }
+}
+
+/// The section "Items", sentence by sentence.
+fn items(group: &mut Group) {
+    let source = "section Items";
+
+    // A lead takes as many trailing units as its length asks and no more.
+    let full_then_trailing = [character(0xA9, 2), mark(3, 1), mark(3, 1)];
+    three_ways::<FssUtf>(
+        group,
+        source,
+        &[0xC2, 0xA9, 0x80, 0xBF],
+        &full_then_trailing,
+    );
+    let full_then_trailing = [character(0x1_0000, 2), mark(3, 1)];
+    three_ways::<Utf16>(
+        group,
+        source,
+        &[0xD800, 0xDC00, 0xDC00],
+        &full_then_trailing,
+    );
+
+    // If there are fewer, lead and those few are one mark.
+    three_ways::<FssUtf>(
+        group,
+        source,
+        &[0xFC, 0x84, 0x80, 0x80, 0x80],
+        &[mark(2, 5)],
+    );
+    let bytes = from_i8(&[0xFF, 0xBF, 0xBF, 0xBF, 0xBF, 0xBF]);
+    three_ways::<UtfEbcdic>(group, source, &bytes, &[mark(2, 6)]);
+    let short_then_single = [mark(2, 1), character(0x41, 1)];
+    three_ways::<Utf16>(group, source, &[0xDBFF, 0x41], &short_then_single);
+
+    // A trailing unit that no lead takes is one mark alone.
+    let alone = [mark(3, 1), mark(3, 1)];
+    three_ways::<FssUtf>(group, source, &[0x80, 0xBF], &alone);
+    three_ways::<UtfEbcdic>(group, source, &from_i8(&[0xA0, 0xBF]), &alone);
+    three_ways::<Utf16>(group, source, &[0xDC00, 0xDFFF], &alone);
+
+    // FE or FF in FSS-UTF is one mark alone, whatever follows.
+    let unused = [mark(4, 1), mark(4, 1), mark(3, 1)];
+    three_ways::<FssUtf>(group, source, &[0xFE, 0xFF, 0x80], &unused);
+    let interrupted = [mark(2, 2), mark(4, 1), mark(3, 1)];
+    three_ways::<FssUtf>(group, source, &[0xE2, 0x89, 0xFF, 0xA0], &interrupted);
+
+    // A full sequence with a fault is one mark over all its bytes.
+    let overlong = [mark(5, 6), character(0x41, 1)];
+    three_ways::<FssUtf>(
+        group,
+        source,
+        &[0xFC, 0x83, 0xBF, 0xBF, 0xBF, 0xBF, 0x41],
+        &overlong,
+    );
+    // 001 calls C0 to C4 and E0 invalid octets; document 01 has them as leads.
+    for lead in 0xC0..=0xC4 {
+        let bytes = from_i8(&[lead, 0xA0]);
+        three_ways::<UtfEbcdic>(group, source, &bytes, &[mark(5, 2)]);
+        let bytes = from_i8(&[lead, 0x41]);
+        three_ways::<UtfEbcdic>(group, source, &bytes, &short_then_single);
+    }
+
+    // A UCS-4 unit is always one item.
+    let units = [0x41, 0x8000_0000, 0xD800, 0xDC00, 0xFFFF_FFFF];
+    let singly = [
+        character(0x41, 1),
+        mark(4, 1),
+        character(0xD800, 1),
+        character(0xDC00, 1),
+        mark(4, 1),
+    ];
+    three_ways::<Ucs4>(group, source, &units, &singly);
+
+    // The listing program's example, read item by item.
+    let example = [
+        character(0x41, 1),
+        character(0xA9, 2),
+        mark(3, 1),
+        mark(2, 2),
+        character(0x0A, 1),
+    ];
+    three_ways::<FssUtf>(
+        group,
+        source,
+        &[0x41, 0xC2, 0xA9, 0x80, 0xE2, 0x89, 0x0A],
+        &example,
+    );
+}
+
+/// FEFF, FFFE and FFFF are carried; so are D800 to DFFF outside UTF-16.
+fn carried<F: Linked>(group: &mut Group) {
+    let mut values = vec![0xFEFF, 0xFFFE, 0xFFFF];
+    values.extend(0xD800..=0xDFFF);
+    for value in values {
+        match F::encode(value) {
+            Some(legal) => {
+                let units: Vec<u32> = legal.iter().map(|&unit| unit.into()).collect();
+                one_character::<F>(group, "a value that is carried", value, &units);
+            }
+            None => {
+                let surrogate_in_utf16 =
+                    F::NAME == Utf16::NAME && (0xD800..=0xDFFF).contains(&value);
+                group.check(surrogate_in_utf16, || {
+                    format!("the reference has no encoding of {value:X} in {}", F::NAME)
+                });
+            }
+        }
+    }
+}
+
+/// Document 01's flag of a UTF-EBCDIC byte, by the words of its rule.
+pub fn flag(utf_ebcdic: u8) -> u32 {
+    match UTF_EBCDIC_TO_I8[usize::from(utf_ebcdic)] {
+        0x00..=0x1F | 0x7F..=0x9F => 0,
+        0x20..=0x7E => 1,
+        0xA0..=0xBF => 9,
+        0xC0..=0xDF => 2,
+        0xE0..=0xEF => 3,
+        0xF0..=0xF7 => 4,
+        0xF8..=0xFB => 5,
+        0xFC..=0xFD => 6,
+        0xFE..=0xFF => 7,
+    }
+}
+
+/// The reader treats each UTF-EBCDIC byte as its flag says.
+fn flags(group: &mut Group) {
+    let trailing = I8_TO_UTF_EBCDIC[0xBF];
+    for byte in 0..=0xFF {
+        let flag = flag(byte);
+        let expected = match flag {
+            0 | 1 => Role::Single,
+            9 => Role::Trailing,
+            length => Role::Lead(length as usize),
+        };
+        let role = UtfEbcdic::role(byte);
+        group.check(role == expected, || {
+            format!("flag {flag} of {byte:02X}, but the reference has {role:?}")
+        });
+
+        // Before more trailing bytes than any lead takes, the item's length
+        // is the lead's.
+        let mut text = [trailing; 9];
+        text[0] = byte;
+        let item = UtfEbcdic::item_at(&text, 0);
+        let (fits, length) = match flag {
+            0 | 1 => (item.fault == 0, 1),
+            9 => (item.fault == 3, 1),
+            length => (item.fault == 0 || item.fault == 5, u64::from(length)),
+        };
+        group.check(fits && item.length == length, || {
+            format!("flag {flag} of {byte:02X}, but the library gives {item:?}")
+        });
+    }
+}
+
+/// No layout gives a value above 7FFFFFFF, so that fault 8 never comes, and
+/// each row's values begin where the row before ends.
+fn faults_that_cannot_be(group: &mut Group) {
+    let mut check = |layout: &Layout, name: &str| {
+        let mut next = 0;
+        for row in layout.rows {
+            let lead_values = u64::from(row.last_lead - row.first_lead) + 1;
+            let trailing_values = 1_u64 << (layout.free_bits * (row.length as u32 - 1));
+            let highest = lead_values * trailing_values - 1;
+            group.check(
+                row.lowest == next && highest == u64::from(row.highest),
+                || format!("{name} of {} bytes gives {highest:X} at most", row.length),
+            );
+            group.check(highest <= u64::from(HIGHEST_VALUE), || {
+                format!("{name} of {} bytes gives {highest:X}", row.length)
+            });
+            next = row.highest + 1;
+        }
+    };
+    check(&FSS_UTF, FssUtf::NAME);
+    check(&I8, "I8");
+}
+
+/// The empty text has no items.
+fn empty<F: Linked>(group: &mut Group) {
+    three_ways::<F>(group, "the empty text", &[], &[]);
+    let refusal = Reading::Refusal {
+        fault: 9,
+        offset: 1,
+    };
+    group.answer::<F>(&[], 1, JkItem::of(refusal, 1), "the empty text");
+}
