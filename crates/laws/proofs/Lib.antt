@@ -11,3 +11,4 @@ pub mod FourForms
 pub mod Reading
 pub mod Spans
 pub mod LayoutTable
+pub mod Items
