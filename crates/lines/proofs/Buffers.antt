@@ -6,7 +6,7 @@ use native.Mathlib.Omega.{arith}
 use native.Mathlib.Numerals.{add-one}
 use lib.ListN.{length, take, drop, set, getD, length-append, length-drop}
 use lib.Seq.{length-take-le, take-at, drop-at, drop-drop, paste, paste-zero, paste-suc, length-paste}
-use Rattle.lines.specs.Line.{withText}
+use Rattle.lines.specs.Line.{withText, Holds}
 
 -- a loop that copies the first n bytes of b: it begins, turns and ends
 pub copy-begin : (d : List ℕ) (at : ℕ) (b : List ℕ) → d ≡ paste d at b 0
@@ -22,11 +22,6 @@ copy-length d at b i o e h l = ap length e ∙ length-paste d at b i h l
 
 pub copy-end : (d : List ℕ) (at : ℕ) (b : List ℕ) (n i : ℕ) → i ≡ n → n ≤ length b → paste d at b i ≡ withText d at (take n b)
 copy-end d at b n i e h = rw (e, length-take-le n b h) (append-assoc (take at d) (take n b) (drop (at + n) d))
-
--- a buffer whose front holds a text, the rest as it was
-pub record Holds (d : List ℕ) (text : List ℕ) (n : ℕ) (o : List ℕ) : Type 0 where
-  pub counted : n ≡ length text
-  pub cells : o ≡ text ++ drop n d
 
 pub holds-first : (d e o : List ℕ) (n : ℕ) → n ≡ 0 + length e → o ≡ withText d 0 e → Holds d e n o
 holds-first d e o n q h =
@@ -51,3 +46,6 @@ length-with d e o at q h =
     ap length q
     ∙ rw (length-append (take at d) (e ++ drop (at + length e) d), length-append e (drop (at + length e) d), length-take-le at d (omega arith), length-drop (at + length e) d)
     (omega arith)
+
+pub front-within : {r : ℕ} {t d o : List ℕ} → Holds d t r o → r ≤ length o
+front-within {r} {t} {d} {o} h = omega (arith, h .counted, ap length (h .cells), length-append t (drop r d))

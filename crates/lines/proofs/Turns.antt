@@ -13,9 +13,9 @@ use Rattle.laws.proofs.Spans.{size-longest}
 use Rattle.laws.proofs.Items.{itemsOnward, sequenceAt, items-end, items-step, length-at, offset-at, within-at}
 use Rattle.laws.proofs.FourForms.{fssUtf-laws}
 use Rattle.items.specs.ItemAt.{itemAt}
-use Rattle.lines.specs.Line.{withText}
+use Rattle.lines.specs.Line.{withText, Holds}
 use Rattle.lines.specs.Listing.{header, line, lines, markCount, marks, total, listingOf}
-use Rattle.lines.proofs.Buffers.{Holds, holds-first, holds-more}
+use Rattle.lines.proofs.Buffers.{holds-first, holds-more}
 
 -- since the loop began at (written₀, out₀) the lines `added` were put in; they and those of the items from `at` on are all the lines
 pub record Listed (s : List ℕ) (written₀ : ℕ) (out₀ out : List ℕ) (written at count marked : ℕ) : Type 0 where
@@ -86,7 +86,7 @@ module _ (s : List ℕ) (p : ℕ) (h : p < length s) (i : Item) (e : i ≡ itemA
 pub listed-end :
     (s : List ℕ) (d out₀ out after : List ℕ) (written₀ written at count marked to : ℕ) → Listed s written₀ out₀ out written at count marked → length s ≤ at
     → Holds d header written₀ out₀ → (text : List ℕ) → text ≡ total count marked → to ≡ written + length text → after ≡ withText out written text
-    → (to ≡ length (listingOf (items fssUtf s))) × (after ≡ listingOf (items fssUtf s) ++ drop to d)
+    → Holds d (listingOf (items fssUtf s)) to after
 listed-end s d out₀ out after written₀ written at count marked to l h b text t q w =
     let n : itemsOnward fssUtf s at ≡ [] = items-end fssUtf s at h in
     let a : lines (items fssUtf s) ≡ l .added = l .lists ∙ rw n (append-nil (l .added)) in
@@ -94,4 +94,4 @@ listed-end s d out₀ out after written₀ written at count marked to l h b text
     let m : marks (items fssUtf s) ≡ marked = l .marks-are ∙ rw n (omega arith) in
     let r = holds-more d (header ++ l .added) text out after written to (l .holds d header b) q w in
     let e : (header ++ l .added) ++ text ≡ listingOf (items fssUtf s) = rw (a, c, m, t) (append-assoc header (l .added) (total count marked)) in
-    (r .counted ∙ ap length e, r .cells ∙ ap (λ (x : List ℕ). x ++ drop to d) e)
+    rw e at r

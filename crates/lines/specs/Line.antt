@@ -16,3 +16,8 @@ pub record Adds (l r : Line) (e : List ℕ) : Type 0 where
 -- a buffer with text put in from an offset on, the rest as it was
 abbrev pub withText : List ℕ → ℕ → List ℕ → List ℕ
 withText d at e = take at d ++ (e ++ drop (at + length e) d)
+
+-- the buffer d became o: n units of text at its front, its rest untouched
+pub record Holds (d text : List ℕ) (n : ℕ) (o : List ℕ) : Type 0 where
+  pub counted : n ≡ length text
+  pub cells : o ≡ text ++ drop n d

@@ -45,5 +45,5 @@ abbrev pub listingOf : List Item → List ℕ
 listingOf is = header ++ (lines is ++ total (length is) (marks is))
 
 -- the listing of the first 4,096 bytes of a text
-abbrev pub listing : List ℕ → List ℕ
+unfoldable pub listing : List ℕ → List ℕ
 listing s = listingOf (items fssUtf (take 4096 s))

@@ -5,18 +5,17 @@ use forms::Item;
 use line::Line;
 use tables::ByteForm;
 ghost use mathlib.Core.Path.{_≡_};
-ghost use mathlib.Core.List.{_++_};
 ghost use Prim.Native.Nat.{_+_, _<_, _≤_};
-ghost use lib.ListN.{length, drop};
+ghost use lib.ListN.{length};
 ghost use Rattle.forms.specs.Form.{spanOf, items};
 ghost use Rattle.forms.specs.Forms.{fssUtf};
-ghost use Rattle.lines.specs.Line.{textOf, withText};
+ghost use Rattle.lines.specs.Line.{textOf, withText, Holds};
 ghost use Rattle.lines.specs.Listing.{header, line, total, markCount, listingOf, listing};
 
 // The listing of the first 4,096 bytes of a text. A buffer of 73,769 bytes holds the longest: a header of 18, 4,096 lines of at most 18
 // and a total of at most 23.
 pub fn listing(text: &[u8], out: &mut [u8; 73769]) -> usize
-    ensures { λ r. ⌜ (r ≡ length (listing (now (text .entry)))) × (now (out .exit) ≡ listing (now (text .entry)) ++ drop r (now (out .entry))) ⌝ }
+    ensures { λ r. ⌜ Holds (now (out .entry)) (listing (now (text .entry))) r (now (out .exit)) ⌝ }
 {
     if 4096 < text.len() {
         return list(&text[..4096], out);
@@ -26,7 +25,7 @@ pub fn listing(text: &[u8], out: &mut [u8; 73769]) -> usize
 
 fn list(text: &[u8], out: &mut [u8]) -> usize
     requires { ⌜ (length (now text) ≤ 4096) × (73769 ≤ length (now out)) ⌝ }
-    ensures { λ r. ⌜ (r ≡ length (listingOf (items fssUtf (now (text .entry))))) × (now (out .exit) ≡ listingOf (items fssUtf (now (text .entry))) ++ drop r (now (out .entry))) ⌝ }
+    ensures { λ r. ⌜ Holds (now (out .entry)) (listingOf (items fssUtf (now (text .entry)))) r (now (out .exit)) ⌝ }
 {
     let mut written = put(out, 0, header_line());
     let mut at: usize = 0;

@@ -7,10 +7,10 @@ use lib.ListN.{length}
 use denote.Ref.{now}
 use Rattle.forms.specs.declared.Span.{Span}
 use Rattle.forms.specs.Form.{spanOf}
-use Rattle.lines.specs.Line.{textOf, withText}
+use Rattle.lines.specs.Line.{textOf, withText, Holds}
 use Rattle.lines.specs.Listing.{header}
 use Rattle.lines.proofs.Appending.{text-length}
-use Rattle.lines.proofs.Buffers.{Holds, holds-first, length-with}
+use Rattle.lines.proofs.Buffers.{holds-first, length-with}
 use Rattle.lines.proofs.Turns.{Listed, mark-most, listed-begin, item-length, item-offset, item-short, listed-more, listed-end}
 use Rattle.lines.proofs.list.Statement.{statement}
 use Rattle.lines.proofs.list.Tie as tie

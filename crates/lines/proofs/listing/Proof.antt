@@ -2,6 +2,7 @@ use mathlib.Core.Path.{sym}
 use native.Mathlib.Omega.{arith}
 use lib.Seq.{length-take-le, take-all}
 use denote.Ref.{now}
+use Rattle.lines.specs.Listing.{listing}
 use borrow.Author.Needs.{needs}
 use Rattle.lines.proofs.listing.Statement.{statement}
 use Rattle.lines.proofs.listing.Tie as tie
@@ -16,12 +17,14 @@ list-requires c κs = (
 )
 
 returns : tie.Need-returns
-returns c = search needs
+unfolding listing
+returns c = c .list .ensures
 
 list-requires-2 : tie.Need-list-requires-2
 list-requires-2 c κs = search needs
 
 returns-2 : tie.Need-returns-2
+unfolding listing
 returns-2 c = rw (take-all 4096 (now (c .before .before .before .before .args .text)) (c .before .before .if1 .left)) (c .list2 .ensures)
 
 pub listing-spec : {M : Type 1} → statement M
