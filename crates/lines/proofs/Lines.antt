@@ -1,7 +1,7 @@
 -- The line of an item from its parts, and how long its numbers are.
 use Prim.Native.Nat.{ℕ, _≤_, _<_}
-use mathlib.Core.Path.{_≡_, refl, ap}
-use mathlib.Core.List.{List, [], _∷_, _++_}
+use mathlib.Core.Path.{_≡_, _∙_}
+use mathlib.Core.List.{List, [], _∷_, _++_, append-assoc}
 use native.Mathlib.Omega.{arith}
 use lib.ListN.{length}
 use Rattle.forms.specs.declared.Fault.{Fault}
@@ -13,8 +13,13 @@ use Rattle.lines.specs.Numerals.{decimal}
 use Rattle.lines.specs.Listing.{shownRead, line}
 use Rattle.lines.proofs.Digits.{decimal-length}
 
-pub line-of : (i : Item) (o n : ℕ) (e : List ℕ) → o ≡ (spanOf i) .offset → n ≡ (spanOf i) .length → e ≡ shownRead i → decimal o ++ (0x20 ∷ (decimal n ++ (0x20 ∷ e))) ≡ line i
-line-of i o n e p q r = rw (p, q, r)
+-- start and length with a space behind each
+abbrev pub placing : ℕ → ℕ → List ℕ
+placing o n = decimal o ++ (0x20 ∷ (decimal n ++ (0x20 ∷ [])))
+
+pub line-of : (i : Item) (o n : ℕ) (e : List ℕ) → o ≡ (spanOf i) .offset → n ≡ (spanOf i) .length → e ≡ shownRead i → placing o n ++ e ≡ line i
+line-of i o n e p q r =
+    append-assoc (decimal o) (0x20 ∷ (decimal n ++ (0x20 ∷ []))) e ∙ rw (append-assoc (decimal n) (0x20 ∷ []) e, p, q, r)
 
 pub four-digits : (n : ℕ) → n < 10000 → length (decimal n) ≤ 4
 four-digits n h = decimal-length 3 n h

@@ -1,5 +1,5 @@
 // The lines of the listing program: `listing` renders the items of a text, and `specs/Listing` says what it prints.
-pub mod line;
+mod line;
 
 use forms::Item;
 use line::Line;

@@ -5,9 +5,10 @@ use lib.ListN.{length}
 use Rattle.forms.specs.declared.Span.{Span}
 use Rattle.forms.specs.Form.{spanOf}
 use Rattle.lines.specs.Numerals.{decimal}
+use Rattle.lines.specs.Line.{Adds}
 use Rattle.lines.proofs.Appending.{adds-then, adds-whole}
 use Rattle.lines.proofs.Digits.{hex-length}
-use Rattle.lines.proofs.Lines.{line-of, four-digits, one-digit, number-small}
+use Rattle.lines.proofs.Lines.{placing, line-of, four-digits, one-digit, number-small}
 use borrow.Author.Needs.{needs}
 use Rattle.lines.proofs.item_line.Statement.{statement}
 use Rattle.lines.proofs.item_line.Tie as tie
@@ -24,9 +25,15 @@ offset-digits c = four-digits (c .span .result .offset) (omega (arith, offset-is
 length-digits : (c : tie.After-span) → length (decimal (c .span .result .length)) ≤ 1
 length-digits c = one-digit (c .span .result .length) (omega (arith, length-is c, c .before .pre .1))
 
--- the line up to what was read has at most seven bytes
-placed : (c : tie.After-push2) → c .push2 .result .length ≤ 7
-placed c = omega (arith, offset-digits (c .before .before .before .before .before), length-digits (c .before .before .before .before .before))
+-- the line up to what was read: at most seven bytes
+placed : (c : tie.After-push2) → let s = c .before .before .before .before .before in
+    Adds (c .before .before .before .before .new .result) (c .push2 .result) (placing (s .span .result .offset) (s .span .result .length))
+placed c =
+    adds-then (c .before .before .before .push-decimal .ensures)
+    (adds-then (c .before .before .push .ensures) (adds-then (c .before .push-decimal2 .ensures) (c .push2 .ensures)))
+
+placed-length : (c : tie.After-push2) → c .push2 .result .length ≤ 7
+placed-length c = omega (arith, offset-digits (c .before .before .before .before .before), length-digits (c .before .before .before .before .before))
 
 number-digits : (c : tie.After-number) → length (decimal (c .number .result)) ≤ 1
 number-digits c = one-digit (c .number .result) (rw (c .number .ensures) (number-small (c .before .before .before .before .item2 .given .0 .0)))
@@ -56,13 +63,13 @@ slice-aggregate-push-text : tie.Need-slice-aggregate-push-text
 slice-aggregate-push-text c = search needs
 
 push-text-requires : tie.Need-push-text-requires
-push-text-requires c κs = omega (arith, placed (c .before .before .before .before))
+push-text-requires c κs = omega (arith, placed-length (c .before .before .before .before))
 
 push-hex-requires : tie.Need-push-hex-requires
-push-hex-requires c κs = omega (arith, placed (c .before .before .before .before .before))
+push-hex-requires c κs = omega (arith, placed-length (c .before .before .before .before .before))
 
 push-requires-3 : tie.Need-push-requires-3
-push-requires-3 c κs = omega (arith, placed (c .before .before .before .before .before .before))
+push-requires-3 c κs = omega (arith, placed-length (c .before .before .before .before .before .before))
 
 enum-known-item-2 : tie.Need-enum-known-item-2
 enum-known-item-2 c = search needs
@@ -71,7 +78,7 @@ slice-aggregate-push-text-2 : tie.Need-slice-aggregate-push-text-2
 slice-aggregate-push-text-2 c = search needs
 
 push-text-requires-2 : tie.Need-push-text-requires-2
-push-text-requires-2 c κs = omega (arith, placed (c .before .before .before .before))
+push-text-requires-2 c κs = omega (arith, placed-length (c .before .before .before .before))
 
 number-requires : tie.Need-number-requires
 number-requires c κs = search needs
@@ -80,46 +87,34 @@ cast-push-decimal : tie.Need-cast-push-decimal
 cast-push-decimal c = search needs
 
 push-decimal-requires-3 : tie.Need-push-decimal-requires-3
-push-decimal-requires-3 c κs = omega (arith, placed (c .before .before .before .before .before .before), number-digits c)
+push-decimal-requires-3 c κs = omega (arith, placed-length (c .before .before .before .before .before .before), number-digits c)
 
 push-requires-4 : tie.Need-push-requires-4
-push-requires-4 c κs = omega (arith, placed (c .before .before .before .before .before .before .before), number-digits (c .before))
+push-requires-4 c κs = omega (arith, placed-length (c .before .before .before .before .before .before .before), number-digits (c .before))
 
 returns : tie.Need-returns
 returns c =
-    let h = c .before in
-    let u = h .before in
+    let u = c .before .before in
     let i = u .before .before .before in
     let b = i .before .before in
-    let d = b .before in
-    let a = d .before in
-    let o = a .before in
-    let n = o .before in
+    let n = b .before .before .before .before in
     let s = n .before in (
-      adds-whole (n .new .ensures .0)
-          (adds-then (o .push-decimal .ensures) (adds-then (a .push .ensures) (adds-then (d .push-decimal2 .ensures) (adds-then (b .push2 .ensures)
-          (adds-then (u .push-text .ensures) (adds-then (h .push-hex .ensures) (c .push3 .ensures)))))))
+      adds-whole (n .new .ensures .0) (adds-then (placed b) (adds-then (u .push-text .ensures) (adds-then (c .before .push-hex .ensures) (c .push3 .ensures))))
           ∙ line-of (s .before .args .item) (s .span .result .offset) (s .span .result .length) _ (offset-is s) (length-is s) (rw (i .item .given .1)),
-      omega (arith, placed b, hex-length 8 (i .item .given .0 .0)),
+      omega (arith, placed-length b, hex-length 8 (i .item .given .0 .0)),
     )
 
 returns-2 : tie.Need-returns-2
 returns-2 c =
-    let h = c .before in
-    let m = h .before in
+    let m = c .before .before in
     let u = m .before in
     let i = u .before .before .before in
     let b = i .before .before in
-    let d = b .before in
-    let a = d .before in
-    let o = a .before in
-    let n = o .before in
+    let n = b .before .before .before .before in
     let s = n .before in (
-      adds-whole (n .new .ensures .0)
-          (adds-then (o .push-decimal .ensures) (adds-then (a .push .ensures) (adds-then (d .push-decimal2 .ensures) (adds-then (b .push2 .ensures)
-          (adds-then (u .push-text2 .ensures) (adds-then (h .push-decimal3 .ensures) (c .push4 .ensures)))))))
+      adds-whole (n .new .ensures .0) (adds-then (placed b) (adds-then (u .push-text2 .ensures) (adds-then (c .before .push-decimal3 .ensures) (c .push4 .ensures))))
           ∙ line-of (s .before .args .item) (s .span .result .offset) (s .span .result .length) _ (offset-is s) (length-is s) (rw (i .item2 .given .1, m .number .ensures)),
-      omega (arith, placed b, number-digits m),
+      omega (arith, placed-length b, number-digits m),
     )
 
 pub item-line-spec : {M : Type 1} → statement M
