@@ -25,8 +25,9 @@ ascendingRows low R from before [] k = true
 ascendingRows low R from before (r ∷ rs) k =
     ascendingRow low R from before r k && ascendingRows low R (suc (r .last)) (limitOf R r k) rs (suc k)
 
+-- and the last row ends at 7FFFFFFF
 abbrev pub ascending : Layout → Bool
-ascending L = ascendingRows (L .low) (L .radix) 0 0 (L .rows) 0
+ascending L = ltb 0 (length (L .rows)) && (leb 0x80000000 (rowLimit L (length (L .rows) - 1)) && ascendingRows (L .low) (L .radix) 0 0 (L .rows) 0)
 
 -- what the test says of a row
 pub record RowFits (low R from before : ℕ) (r : Row) (k : ℕ) : Type 0 where
@@ -121,7 +122,19 @@ module _ (low R : ℕ) where
         ← suc-add k i,
       )
 
-module _ (L : Layout) (ok : ascending L ≡ true) where
+module _ (L : Layout) (passes : ascending L ≡ true) where
+  some : 0 < length (L .rows)
+  some = ltb-true 0 (length (L .rows)) (and-left (ltb 0 (length (L .rows))) _ passes)
+
+  tested : (leb 0x80000000 (rowLimit L (length (L .rows) - 1)) && ascendingRows (L .low) (L .radix) 0 0 (L .rows) 0) ≡ true
+  tested = and-right (ltb 0 (length (L .rows))) _ passes
+
+  top : 0x80000000 ≤ rowLimit L (length (L .rows) - 1)
+  top = leb-true 0x80000000 (rowLimit L (length (L .rows) - 1)) (and-left (leb 0x80000000 (rowLimit L (length (L .rows) - 1))) _ tested)
+
+  ok : ascendingRows (L .low) (L .radix) 0 0 (L .rows) 0 ≡ true
+  ok = and-right (leb 0x80000000 (rowLimit L (length (L .rows) - 1))) _ tested
+
   pub row-of : (k : ℕ) → k < length (L .rows) → RowIs (L .low) (L .radix) (rowAt L k) k
   row-of k h = rw (zero-add k) at (row-is (L .low) (L .radix) 0 0 (L .rows) 0 ok k h)
 
@@ -139,4 +152,5 @@ module _ (L : Layout) (ok : ascending L ≡ true) where
         above = λ k v h l. omega (arith, row-of k h .zeroed);
         leads = λ k v u h b l e f t. leads-of-row k u h f t;
         bound = λ k h. row-of k h .bound;
+        reaches = λ v h x. (length (L .rows) - 1, omega (arith, some), omega (arith, top));
       }

@@ -125,11 +125,16 @@ module _ (to from : ℕ → ℕ) (F : Form) where
           ∙ ap (map from) (laws .only (exchangedSequence to c) v (reads-to c v r))
           ∙ rw (there (c .first) (lead-valid (r .full .leads)), from-to (c .rest) (r .full .trail))
 
+      map-nil : (e : List ℕ) → map from e ≡ [] → e ≡ []
+      map-nil [] h = refl
+      map-nil (u ∷ e) h = absurd (let z : _≡_ {A = ℕ} 0 1 = cc in omega arith)
+
       pub exchanged-laws : Laws G
       exchanged-laws =
           record {
             legal = λ v c e. legal-of v c (encode F v) refl (sym (encode-from v) ∙ e);
             only = only-of;
             small = λ c v r. laws .small (exchangedSequence to c) v (reads-to c v r);
+            carries = λ v h x e. laws .carries v h x (map-nil (F .shortest v) e);
             reach = λ u k h. laws .reach (to u) k h;
           }

@@ -1,6 +1,9 @@
 -- What a form owes: the laws from which the round trip, the lossy decoding and the start of an item follow for every form.
 use Prim.Native.Nat.{ℕ, _<_}
 use mathlib.Core.Path.{_≡_}
+use mathlib.Core.Logic.{_≢_}
+use mathlib.Core.List.{[]}
+use mathlib.Core.Option.{none}
 use lib.ListN.{length}
 use Rattle.forms.specs.Form.{Role, lead, Sequence, units, Form, Content, character, fullContent, encode}
 use Rattle.laws.proofs.Sequences.{Full}
@@ -17,5 +20,7 @@ pub record Laws (F : Form) : Type 0 where
   pub only : (c : Sequence) (v : ℕ) → Reads F c v → encode F v ≡ units c
   -- and its value lies below 80000000
   pub small : (c : Sequence) (v : ℕ) → Reads F c v → v < 0x80000000
+  -- a value below 80000000 that the form does not exclude has an encoding
+  pub carries : (v : ℕ) → v < 0x80000000 → F .excluded v ≡ none → F .shortest v ≢ []
   -- no lead reaches the longest item
   pub reach : (u k : ℕ) → F .role u ≡ lead k → k < F .longest

@@ -7,6 +7,7 @@ use native.Mathlib.Omega.{arith}
 use native.Mathlib.Nat.{div-one}
 use native.Mathlib.Decide.{decLt}
 use lib.Dec.{ltb}
+use borrow.Author.Tests.{ltb-false}
 use Rattle.forms.specs.declared.Fault.{Fault}
 use Rattle.forms.specs.declared.Fault.the-variants.{Unrepresentable}
 use Rattle.forms.specs.Form.{Role, lead, trailing, invalid}
@@ -88,8 +89,20 @@ pub utf16-rise : (k : ℕ) → suc k < 2 → rowLimit utf16Layout k ≤ rowLimit
 utf16-rise zero h = omega arith
 utf16-rise (suc k) h = absurd (omega arith)
 
+not-above : (x y : Bool) → cond (x || y) (some Unrepresentable) none ≡ none → y ≡ false
+not-above true y e = absurd (let z : _≡_ {A = ℕ} 0 1 = cc in omega arith)
+not-above false true e = absurd (let z : _≡_ {A = ℕ} 0 1 = cc in omega arith)
+not-above false false e = refl
+
 pub utf16-fits : Fit utf16Layout
-utf16-fits = record { positive = utf16-positive; above = utf16-above; leads = utf16-leads; bound = utf16-bound }
+utf16-fits =
+    record {
+      positive = utf16-positive;
+      above = utf16-above;
+      leads = utf16-leads;
+      bound = utf16-bound;
+      reaches = λ v h x. (1, omega arith, omega (arith, ltb-false 0x10FFFF v (not-above (isSurrogate v) (ltb 0x10FFFF v) x)));
+    }
 
 pub fssUtf-laws : Laws fssUtf
 fssUtf-laws = laws (byteLayout 6 6) fssUtf-fits

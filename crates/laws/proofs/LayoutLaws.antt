@@ -29,6 +29,8 @@ pub record Fit (L : Layout) : Type 0 where
       (k v u : ℕ) → k < length (L .rows) → L .excluded v ≡ none → v < rowLimit L k
       → u ≡ (rowAt L k) .first + (v - (rowAt L k) .origin) / (L .radix) ^ k → (rowAt L k) .first ≤ u → u ≤ (rowAt L k) .last → roleOf L u ≡ lead k
   pub bound : (k : ℕ) → k < length (L .rows) → rowLimit L k ≤ 0x80000000
+  -- a value that is carried fits some row
+  pub reaches : (v : ℕ) → v < 0x80000000 → L .excluded v ≡ none → (k : ℕ) × (k < length (L .rows)) × (v < rowLimit L k)
 
 nil-cons : {A : Type 0} {y : ℕ} {ys : List ℕ} → [] ≡ y ∷ ys → A
 nil-cons e = absurd (let z : _≡_ {A = ℕ} 0 1 = cc in omega arith)
@@ -297,7 +299,14 @@ module _ (L : Layout) (fits : Fit L) where
       legal-of v c (h .0) (h .1) (spelling v)
 
   pub laws : Laws F
-  laws = record { legal = legal; only = only; small = small; reach = λ u k h. in-row u k h .inside }
+  laws =
+      record {
+        legal = legal;
+        only = only;
+        small = small;
+        carries = λ v h x. let r = fits .reaches v h x in spelled-below L (L .rows) 0 v (r .0) (r .1) (rw (zero-add (r .0)) (r .2));
+        reach = λ u k h. in-row u k h .inside;
+      }
 
 -- the test that a reader makes for fault 5: against the lowest value of the length
 module _ (L : Layout) (fits : Fit L) (rise : (k : ℕ) → suc k < length (L .rows) → rowLimit L k ≤ rowLimit L (suc k)) where

@@ -12,3 +12,5 @@ pub mod Reading
 pub mod Spans
 pub mod LayoutTable
 pub mod Items
+pub mod Characters
+pub mod RoundTrip

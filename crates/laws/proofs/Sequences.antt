@@ -82,3 +82,49 @@ module _ (F : Form) where
   -- the equation that a reader goes by: the first sequence, then those of the text behind it
   pub sequences-step : (u : ℕ) (us : List ℕ) → sequences F (u ∷ us) ≡ firstOf F u us ∷ sequences F (drop (length (firstOf F u us .rest)) us)
   sequences-step u us = rw (← sequences-after us (length (firstOf F u us .rest)))
+
+  -- a border that no trailing unit crosses parts the sequences too
+  pub taken-border : (k : ℕ) (us r : List ℕ) → NoTrailingFirst F r → taken F k (us ++ r) ≡ taken F k us
+  taken-border zero us r c = refl
+  taken-border (suc k) [] [] c = refl
+  taken-border (suc k) [] (x ∷ r) c = rw c
+  taken-border (suc k) (u ∷ us) r c = ap (λ (t : List ℕ). cond (isTrailing (F .role u)) (u ∷ t) []) (taken-border k us r c)
+
+  pub sequences-border : (m r : List ℕ) (k : ℕ) → NoTrailingFirst F r → k ≤ length m → sequencesAfter F (m ++ r) k ≡ sequencesAfter F m k ++ sequences F r
+  sequences-border [] r zero c h = refl
+  sequences-border [] r (suc k) c h = absurd (not-suc-le-zero h)
+  sequences-border (u ∷ us) r zero c h =
+      rw (taken-border (asked (F .role u)) us r c)
+      (ap {B = List Sequence} (λ (x : List Sequence). firstOf F u us ∷ x)
+      (sequences-border us r (length (firstOf F u us .rest)) c (taken-length (asked (F .role u)) us)))
+  sequences-border (u ∷ us) r (suc k) c h = sequences-border us r k c (le-of-suc-le-suc h)
+
+  pub taken-all : (t r : List ℕ) → AllTrailing F t → taken F (length t) (t ++ r) ≡ t
+  taken-all [] r a = refl
+  taken-all (x ∷ t) r a = rw (a .0, taken-all t r (a .1))
+
+  skipped : (a b : List ℕ) → sequencesAfter F (a ++ b) (length a) ≡ sequences F b
+  skipped [] b = refl
+  skipped (x ∷ a) b = skipped a b
+
+  -- a full sequence at the front is the first
+  pub sequences-full : (c : Sequence) (r : List ℕ) → Full F c → sequences F (units c ++ r) ≡ c ∷ sequences F r
+  sequences-full c r f = rw (f .leads, taken-all (c .rest) r (f .trail), skipped (c .rest) r)
+
+  split-cond : (b : Bool) (u : ℕ) (t us : List ℕ) → t ++ drop (length t) us ≡ us → cond b (u ∷ t) [] ++ drop (length (cond b (u ∷ t) [])) (u ∷ us) ≡ u ∷ us
+  split-cond true u t us h = ap {B = List ℕ} (λ (x : List ℕ). u ∷ x) h
+  split-cond false u t us h = refl
+
+  pub taken-split : (k : ℕ) (us : List ℕ) → taken F k us ++ drop (length (taken F k us)) us ≡ us
+  taken-split zero us = refl
+  taken-split (suc k) [] = refl
+  taken-split (suc k) (u ∷ us) = split-cond (isTrailing (F .role u)) u (taken F k us) us (taken-split k us)
+
+  -- the sequences are the text
+  pub sequences-joined : (s : List ℕ) (k : ℕ) → joined (sequencesAfter F s k) ≡ drop k s
+  sequences-joined [] zero = refl
+  sequences-joined [] (suc k) = refl
+  sequences-joined (u ∷ us) zero =
+      ap {B = List ℕ} (λ (x : List ℕ). u ∷ x)
+      (ap (λ (x : List ℕ). taken F (asked (F .role u)) us ++ x) (sequences-joined us (length (firstOf F u us .rest))) ∙ taken-split (asked (F .role u)) us)
+  sequences-joined (u ∷ us) (suc k) = sequences-joined us k

@@ -1,0 +1,151 @@
+-- Texts of well-formed characters: how they read, and that an accepted text is one.
+use Prim.Native.Nat.{ℕ, zero, suc, _+_, _≤_, _<_}
+use mathlib.Core.Path.{_≡_, refl, sym, ap, _∙_, subst}
+use mathlib.Core.Logic.{_≢_}
+use mathlib.Core.Bool.{Bool, true, false, cond}
+use mathlib.Core.List.{List, [], _∷_, _++_, append-assoc, append-nil}
+use mathlib.Core.Option.{Option, none, some}
+use native.Mathlib.Omega.{arith}
+use native.Mathlib.Nat.{add-assoc, add-zero}
+use lib.Dec.{eqb}
+use borrow.Author.Tests.{eq-eqb, eqb-true}
+use lib.ListN.{length, drop, length-append}
+use Rattle.forms.specs.declared.Fault.{Fault}
+use Rattle.forms.specs.declared.Item.{Item}
+use Rattle.forms.specs.declared.Item.the-variants.{Character, Mark}
+use Rattle.forms.specs.declared.Span.{Span}
+use Rattle.forms.specs.declared.Refusal.{Refusal}
+use Rattle.forms.specs.Form.{Role, lead, trailing, invalid, Sequence, sequence, units, size, Form, asked, firstOf, sequencesAfter, sequences, Content, character, mark, fullContent, contentAs, content, span, withSpan, itemOf, itemsFrom, items, unless, encode, encodeAll, AllEncodable}
+use Rattle.forms.specs.Conversion.{Outcome, converted, refused, prepend, put, convertItems}
+use Rattle.laws.proofs.Sequences.{Full, AllTrailing, joined, taken-trailing, sequences-full, sequences-joined}
+use Rattle.laws.proofs.FormLaws.{Reads, Laws}
+
+-- the characters of values, one behind the other from p on
+abbrev pub charactersFrom : Form → ℕ → List ℕ → List Item
+charactersFrom F p [] = []
+charactersFrom F p (v ∷ vs) = Character v (span p (length (encode F v))) ∷ charactersFrom F (p + length (encode F v)) vs
+
+module _ (F : Form) where
+  -- a sequence that reads as a character is that item
+  pub reads-content : (c : Sequence) (v : ℕ) → Reads F c v → content F c ≡ character v
+  reads-content c v r = rw (r .full .leads, eq-eqb (length (c .rest)) (length (c .rest)) refl) (r .shows)
+
+  pub reads-item : (p : ℕ) (c : Sequence) (v : ℕ) → Reads F c v → itemOf F p c ≡ Character v (span p (size c))
+  reads-item p c v r = rw (reads-content c v r)
+
+  -- and an item that is a character is of a sequence that reads as it
+  full-if :
+      (c : Sequence) (v k : ℕ) (b : Bool) (f : Fault) → eqb (length (c .rest)) k ≡ b → F .role (c .first) ≡ lead k → AllTrailing F (c .rest)
+      → cond b (fullContent F c) (mark f) ≡ character v → Reads F c v
+  full-if c v k true f e r a h =
+      let n : length (c .rest) ≡ k = eqb-true (length (c .rest)) k e in
+      record { full = record { leads = rw n r; trail = a }; shows = h }
+  full-if c v k false f e r a h = absurd (let z : _≡_ {A = ℕ} 0 1 = cc in omega arith)
+
+  reads-as : (c : Sequence) (v : ℕ) (o : Role) → F .role (c .first) ≡ o → AllTrailing F (c .rest) → contentAs F o c ≡ character v → Reads F c v
+  reads-as c v (lead k) e a h = full-if c v k (eqb (length (c .rest)) k) _ refl e a h
+  reads-as c v trailing e a h = absurd (let z : _≡_ {A = ℕ} 0 1 = cc in omega arith)
+  reads-as c v invalid e a h = absurd (let z : _≡_ {A = ℕ} 0 1 = cc in omega arith)
+
+  pub content-reads : (c : Sequence) (v : ℕ) → AllTrailing F (c .rest) → content F c ≡ character v → Reads F c v
+  content-reads c v a h = reads-as c v (F .role (c .first)) refl a h
+
+  -- each sequence of a text has trailing units alone behind its first
+  abbrev pub AllTaken : List Sequence → Type 0
+  AllTaken [] = Unit {0}
+  AllTaken (c ∷ cs) = AllTrailing F (c .rest) × AllTaken cs
+
+  pub all-taken : (s : List ℕ) (k : ℕ) → AllTaken (sequencesAfter F s k)
+  all-taken [] k = tt
+  all-taken (u ∷ us) zero = (taken-trailing F (asked (F .role u)) us, all-taken us (length (firstOf F u us .rest)))
+  all-taken (u ∷ us) (suc k) = all-taken us k
+
+module _ (F : Form) (laws : Laws F) where
+  -- well-formed characters at the front are read as themselves
+  read-one :
+      (p v : ℕ) (e r : List ℕ) → encode F v ≡ e → e ≢ []
+      → itemsFrom F p (sequences F (e ++ r)) ≡ Character v (span p (length e)) ∷ itemsFrom F (p + length e) (sequences F r)
+  read-one p v [] r q n = absurd (n refl)
+  read-one p v (u ∷ t) r q n =
+      let c = sequence u t in
+      let l = laws .legal v c q in
+      ap (itemsFrom F p) (sequences-full F c r (l .full))
+      ∙ ap {B = List Item} (λ (i : Item). i ∷ itemsFrom F (p + size c) (sequences F r)) (reads-item F p c v l)
+
+  pub read-characters :
+      (vs : List ℕ) (p : ℕ) (r : List ℕ) → AllEncodable F vs
+      → itemsFrom F p (sequences F (encodeAll F vs ++ r)) ≡ charactersFrom F p vs ++ itemsFrom F (p + length (encodeAll F vs)) (sequences F r)
+  read-characters [] p r a = rw (add-zero p)
+  read-characters (v ∷ vs) p r a =
+      rw (append-assoc (encode F v) (encodeAll F vs) r, read-one p v (encode F v) (encodeAll F vs ++ r) refl (a .0), read-characters vs (p + length (encode F v)) r (a .1), length-append (encode F v) (encodeAll F vs), add-assoc p (length (encode F v)) (length (encodeAll F vs)))
+
+  pub items-characters : (vs : List ℕ) → AllEncodable F vs → items F (encodeAll F vs) ≡ charactersFrom F 0 vs
+  items-characters vs a =
+      ap (items F) (sym (append-nil (encodeAll F vs))) ∙ read-characters vs 0 [] a ∙ append-nil (charactersFrom F 0 vs)
+
+unless-some : (o : Option Fault) (e : List ℕ) → o ≡ none → unless o e ≡ e
+unless-some o e h = rw h
+
+module _ (F : Form) (laws : Laws F) (G : Form) (target : Laws G) where
+  -- characters that the target holds are converted one by one
+  put-one : (v p : ℕ) (rest : Outcome) (o : Option Fault) → G .excluded v ≡ o → encode G v ≢ [] → put G v p o rest ≡ prepend (encode G v) rest
+  put-one v p rest none e n = rw e
+  put-one v p rest (some f) e n = absurd (n (rw e))
+
+  pub convert-characters : (vs : List ℕ) (p : ℕ) → AllEncodable G vs → convertItems G (charactersFrom F p vs) ≡ converted (encodeAll G vs)
+  convert-characters [] p a = refl
+  convert-characters (v ∷ vs) p a =
+      put-one v p (convertItems G (charactersFrom F (p + length (encode F v)) vs)) (G .excluded v) refl (a .0)
+      ∙ ap (prepend (encode G v)) (convert-characters vs (p + length (encode F v)) (a .1))
+
+  -- what an accepted text is: characters of values that both forms have encodings of
+  pub record Accepted (s es : List ℕ) : Type 0 where
+    pub values : List ℕ
+    pub source : s ≡ encodeAll F values
+    pub result : es ≡ encodeAll G values
+    pub from : AllEncodable F values
+    pub to : AllEncodable G values
+
+  prepend-converted : (e es : List ℕ) (o : Outcome) → prepend e o ≡ converted es → (fs : List ℕ) × (o ≡ converted fs) × (es ≡ e ++ fs)
+  prepend-converted e es (converted fs) h = (fs, refl, cc)
+  prepend-converted e es (refused r) h = absurd (let z : _≡_ {A = ℕ} 0 1 = cc in omega arith)
+
+  put-converted :
+      (v p : ℕ) (es : List ℕ) (rest : Outcome) (o : Option Fault) → G .excluded v ≡ o → put G v p o rest ≡ converted es
+      → (G .excluded v ≡ none) × (prepend (G .shortest v) rest ≡ converted es)
+  put-converted v p es rest none e h = (e, h)
+  put-converted v p es rest (some f) e h = absurd (let z : _≡_ {A = ℕ} 0 1 = cc in omega arith)
+
+  encoding-of : (v : ℕ) (c : Sequence) → encode F v ≡ units c → encode F v ≢ []
+  encoding-of v c e n = let z : _≡_ {A = ℕ} 0 1 = cc in omega arith
+
+  accept-one :
+      (c : Sequence) (v : ℕ) (cs : List Sequence) (es fs : List ℕ) → Reads F c v → G .excluded v ≡ none → es ≡ G .shortest v ++ fs
+      → Accepted (joined cs) fs → Accepted (units c ++ joined cs) es
+  accept-one c v cs es fs r x e a =
+      let l = laws .only c v r in
+      let k : encode G v ≡ G .shortest v = unless-some (G .excluded v) (G .shortest v) x in
+      record {
+        values = v ∷ a .values;
+        source = ap (λ (x : List ℕ). x ++ joined cs) (sym l) ∙ ap (λ (y : List ℕ). encode F v ++ y) (a .source);
+        result = e ∙ ap (λ (x : List ℕ). x ++ fs) (sym k) ∙ ap (λ (y : List ℕ). encode G v ++ y) (a .result);
+        from = (encoding-of v c l, a .from);
+        to = ((λ n. target .carries v (laws .small c v r) x (sym k ∙ n)), a .to);
+      }
+
+  accept : (cs : List Sequence) (p : ℕ) (es : List ℕ) → AllTaken F cs → convertItems G (itemsFrom F p cs) ≡ converted es → Accepted (joined cs) es
+  accept [] p es a h = let e : es ≡ [] = cc in record { values = []; source = refl; result = e; from = tt; to = tt }
+  accept (c ∷ cs) p es a h = go (content F c) refl (accept cs (p + size c)) h
+    where
+      go :
+          (t : Content) → content F c ≡ t
+          → ((fs : List ℕ) → AllTaken F cs → convertItems G (itemsFrom F (p + size c) cs) ≡ converted fs → Accepted (joined cs) fs)
+          → convertItems G (withSpan t (span p (size c)) ∷ itemsFrom F (p + size c) cs) ≡ converted es → Accepted (units c ++ joined cs) es
+      go (mark f) e k h = absurd (let z : _≡_ {A = ℕ} 0 1 = cc in omega arith)
+      go (character v) e k h =
+          let q = put-converted v p es (convertItems G (itemsFrom F (p + size c) cs)) (G .excluded v) refl h in
+          let r = prepend-converted (G .shortest v) es (convertItems G (itemsFrom F (p + size c) cs)) (q .1) in
+          accept-one c v cs es (r .0) (content-reads F c v (a .0) e) (q .0) (r .2) (k (r .0) (a .1) (r .1))
+
+  pub accepted : (s es : List ℕ) → convertItems G (items F s) ≡ converted es → Accepted s es
+  accepted s es h = subst (λ (x : List ℕ). Accepted x es) (sequences-joined F s 0) (accept (sequences F s) 0 es (all-taken F s 0) h)
