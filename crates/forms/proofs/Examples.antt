@@ -1,0 +1,194 @@
+-- Examples that compute, beside the starred points: document 01's limits from both sides, its listing, and one case or more for each rule.
+use Prim.Native.Nat.{ℕ, zero, suc}
+use mathlib.Core.Path.{_≡_, refl, sym}
+use mathlib.Core.Logic.{_≢_}
+use mathlib.Core.List.{List, [], _∷_, _++_, map}
+use mathlib.Core.Option.{Option, none, some}
+use native.Mathlib.Omega.{arith}
+use lib.ListN.{length, replicate}
+use Rattle.forms.specs.declared.Fault.{Fault}
+use Rattle.forms.specs.declared.Fault.the-variants.{SourceTooLong, MissingTrailing, StrayTrailing, InvalidUnit, Overlong, Unrepresentable, BufferTooShort, ValueTooLarge}
+use Rattle.forms.specs.declared.Item.{Item}
+use Rattle.forms.specs.declared.Item.the-variants.{Character, Mark}
+use Rattle.forms.specs.declared.Conversion.{Conversion}
+use Rattle.forms.specs.declared.Conversion.the-variants.{Units, Refused}
+use Rattle.forms.specs.Fault.{refusal}
+use Rattle.forms.specs.Form.{units, Form, sequences, span, spanOf, items, encode, WellFormed, OccursAt}
+use Rattle.forms.specs.Layout.{formOf}
+use Rattle.forms.specs.Exchange.{i8Of, ebcdicOf}
+use Rattle.forms.specs.Forms.{byteLayout, fssUtf, i8, utfEbcdic, utf16, ucs4}
+use Rattle.forms.specs.Flags.{flagOf}
+use Rattle.forms.specs.Conversion.{outcome, inRoom, answerOf, cellsOf}
+
+pub data Example : Type 0 where
+  -- a value and its legal encoding, which is read as the value
+  encodes : Form → ℕ → List ℕ → Example
+  -- a value that the form does not carry
+  excludes : Form → ℕ → Fault → Example
+  -- a text and its items
+  reads : Form → List ℕ → List Item → Example
+  -- a text converted into a buffer: the answer, and the buffer's cells then
+  converts : Form → Form → List ℕ → List ℕ → Conversion → List ℕ → Example
+
+pub data Result : Type 0 where
+  encoded : List ℕ → List Item → Result
+  excluded : List ℕ → Option Fault → Result
+  read : List Item → Result
+  converted : Conversion → List ℕ → Result
+
+abbrev pub actual : Example → Result
+actual (encodes F v e) = encoded (encode F v) (items F e)
+actual (excludes F v f) = excluded (encode F v) (F .excluded v)
+actual (reads F s is) = read (items F s)
+actual (converts F G s d a t) = converted (answerOf (inRoom (length d) (outcome F G s))) (cellsOf (inRoom (length d) (outcome F G s)) d)
+
+abbrev pub expected : Example → Result
+expected (encodes F v e) = encoded e (Character v (span 0 (length e)) ∷ [])
+expected (excludes F v f) = excluded [] (some f)
+expected (reads F s is) = read is
+expected (converts F G s d a t) = converted a t
+
+-- FSS-UTF with a seventh row: its values pass 7FFFFFFF, which those of document 01's layouts do not
+abbrev sevenRows : Form
+sevenRows = formOf (byteLayout 6 7)
+
+-- the input of document 01's listing
+abbrev listing : List ℕ
+listing = 0x41 ∷ 0xC2 ∷ 0xA9 ∷ 0x80 ∷ 0xE2 ∷ 0x89 ∷ 0x0A ∷ []
+
+-- both sides of the limits, and of fault 8
+abbrev pub byteEncodings : List Example
+byteEncodings =
+    encodes fssUtf 0x7F (0x7F ∷ []) ∷
+    encodes fssUtf 0x80 (0xC2 ∷ 0x80 ∷ []) ∷
+    encodes fssUtf 0x7FF (0xDF ∷ 0xBF ∷ []) ∷
+    encodes fssUtf 0x800 (0xE0 ∷ 0xA0 ∷ 0x80 ∷ []) ∷
+    encodes fssUtf 0xFFFF (0xEF ∷ 0xBF ∷ 0xBF ∷ []) ∷
+    encodes fssUtf 0x10000 (0xF0 ∷ 0x90 ∷ 0x80 ∷ 0x80 ∷ []) ∷
+    encodes fssUtf 0x1FFFFF (0xF7 ∷ 0xBF ∷ 0xBF ∷ 0xBF ∷ []) ∷
+    encodes fssUtf 0x200000 (0xF8 ∷ 0x88 ∷ 0x80 ∷ 0x80 ∷ 0x80 ∷ []) ∷
+    encodes i8 0x9F (0x9F ∷ []) ∷
+    encodes i8 0xA0 (0xC5 ∷ 0xA0 ∷ []) ∷
+    encodes i8 0x3FFF (0xEF ∷ 0xBF ∷ 0xBF ∷ []) ∷
+    encodes i8 0x4000 (0xF0 ∷ 0xB0 ∷ 0xA0 ∷ 0xA0 ∷ []) ∷
+    encodes utfEbcdic 0x3FFF (0xFB ∷ 0xFE ∷ 0xFE ∷ []) ∷
+    encodes sevenRows 0x7FFFFFFF (0xFD ∷ 0xBF ∷ 0xBF ∷ 0xBF ∷ 0xBF ∷ 0xBF ∷ []) ∷
+    excludes sevenRows 0x80000000 ValueTooLarge ∷
+    []
+
+pub byte-encodings-hold : map actual byteEncodings ≡ map expected byteEncodings
+byte-encodings-hold = refl
+
+-- both sides of fault 6; UCS-4 carries all
+abbrev pub unitEncodings : List Example
+unitEncodings =
+    encodes utf16 0xD7FF (0xD7FF ∷ []) ∷
+    excludes utf16 0xD800 Unrepresentable ∷
+    excludes utf16 0xDFFF Unrepresentable ∷
+    encodes utf16 0xE000 (0xE000 ∷ []) ∷
+    encodes utf16 0xFFFF (0xFFFF ∷ []) ∷
+    encodes utf16 0x10401 (0xD801 ∷ 0xDC01 ∷ []) ∷
+    encodes utf16 0x10FFFF (0xDBFF ∷ 0xDFFF ∷ []) ∷
+    excludes utf16 0x110000 Unrepresentable ∷
+    encodes ucs4 0x0 (0x0 ∷ []) ∷
+    encodes ucs4 0xD800 (0xD800 ∷ []) ∷
+    encodes ucs4 0x7FFFFFFF (0x7FFFFFFF ∷ []) ∷
+    []
+
+pub unit-encodings-hold : map actual unitEncodings ≡ map expected unitEncodings
+unit-encodings-hold = refl
+
+-- the listing; a short sequence and what follows it; units that take none; too long; fault 8
+abbrev pub readings : List Example
+readings =
+    reads fssUtf listing
+    (Character 0x41 (span 0 1) ∷ Character 0xA9 (span 1 2) ∷ Mark StrayTrailing (span 3 1) ∷ Mark MissingTrailing (span 4 2) ∷ Character 0x0A (span 6 1) ∷ []) ∷
+    reads fssUtf (0xE2 ∷ 0x89 ∷ 0xC2 ∷ 0xA9 ∷ []) (Mark MissingTrailing (span 0 2) ∷ Character 0xA9 (span 2 2) ∷ []) ∷
+    reads fssUtf (0xC2 ∷ 0xFE ∷ 0x80 ∷ []) (Mark MissingTrailing (span 0 1) ∷ Mark InvalidUnit (span 1 1) ∷ Mark StrayTrailing (span 2 1) ∷ []) ∷
+    reads fssUtf (0xE2 ∷ 0x41 ∷ 0x89 ∷ []) (Mark MissingTrailing (span 0 1) ∷ Character 0x41 (span 1 1) ∷ Mark StrayTrailing (span 2 1) ∷ []) ∷
+    reads fssUtf (0x80 ∷ 0x80 ∷ []) (Mark StrayTrailing (span 0 1) ∷ Mark StrayTrailing (span 1 1) ∷ []) ∷
+    reads i8 (0xE0 ∷ 0xBF ∷ 0xBF ∷ []) (Mark Overlong (span 0 3) ∷ []) ∷
+    reads utfEbcdic (0x8A ∷ 0xFE ∷ 0xFE ∷ 0x25 ∷ []) (Mark Overlong (span 0 3) ∷ Character 0x0A (span 3 1) ∷ []) ∷
+    reads utf16 (0xD800 ∷ 0xD800 ∷ 0xDC00 ∷ []) (Mark MissingTrailing (span 0 1) ∷ Character 0x10000 (span 1 2) ∷ []) ∷
+    reads utf16 (0xD800 ∷ []) (Mark MissingTrailing (span 0 1) ∷ []) ∷
+    reads ucs4 (0x80000000 ∷ 0x41 ∷ []) (Mark InvalidUnit (span 0 1) ∷ Character 0x41 (span 1 1) ∷ []) ∷
+    reads sevenRows (0xFE ∷ 0x82 ∷ 0x80 ∷ 0x80 ∷ 0x80 ∷ 0x80 ∷ 0x80 ∷ []) (Mark ValueTooLarge (span 0 7) ∷ []) ∷
+    reads sevenRows (0xFE ∷ 0x81 ∷ 0x80 ∷ 0x80 ∷ 0x80 ∷ 0x80 ∷ 0x80 ∷ []) (Mark Overlong (span 0 7) ∷ []) ∷
+    []
+
+pub readings-hold : map actual readings ≡ map expected readings
+readings-hold = refl
+
+-- the lowest place at which a fault applies decides; then the room
+abbrev pub conversions : List Example
+conversions =
+    converts fssUtf utf16 [] [] (Units 0) [] ∷
+    converts fssUtf utf16 (0x41 ∷ 0xF0 ∷ 0x90 ∷ 0x80 ∷ 0x80 ∷ []) (7 ∷ 7 ∷ 7 ∷ 7 ∷ []) (Units 3) (0x41 ∷ 0xD800 ∷ 0xDC00 ∷ 7 ∷ []) ∷
+    converts fssUtf utf16 (0x41 ∷ 0xF0 ∷ 0x90 ∷ 0x80 ∷ 0x80 ∷ []) (7 ∷ 7 ∷ 7 ∷ []) (Units 3) (0x41 ∷ 0xD800 ∷ 0xDC00 ∷ []) ∷
+    converts fssUtf utf16 (0x41 ∷ 0xF0 ∷ 0x90 ∷ 0x80 ∷ 0x80 ∷ []) (7 ∷ 7 ∷ []) (Refused (refusal BufferTooShort 0)) (7 ∷ 7 ∷ []) ∷
+    converts fssUtf utf16 (0x41 ∷ 0xED ∷ 0xA0 ∷ 0x80 ∷ 0xED ∷ 0xB0 ∷ 0x80 ∷ []) (7 ∷ []) (Refused (refusal Unrepresentable 1)) (7 ∷ []) ∷
+    converts fssUtf utf16 (0x41 ∷ 0xC0 ∷ 0x80 ∷ 0xED ∷ 0xA0 ∷ 0x80 ∷ []) (7 ∷ []) (Refused (refusal Overlong 1)) (7 ∷ []) ∷
+    converts ucs4 utf16 (0x110000 ∷ 0x80000000 ∷ []) [] (Refused (refusal Unrepresentable 0)) [] ∷
+    converts utf16 utfEbcdic (0x0A ∷ 0x3FFF ∷ []) (7 ∷ 7 ∷ 7 ∷ 7 ∷ []) (Units 4) (0x25 ∷ 0xFB ∷ 0xFE ∷ 0xFE ∷ []) ∷
+    []
+
+pub conversions-hold : map actual conversions ≡ map expected conversions
+conversions-hold = refl
+
+-- "A source of 65,536 units is taken, 65,537 gives 1", before the fault of any unit
+pub at-the-limit : answerOf (outcome ucs4 utf16 (replicate 65536 0x80000000)) ≡ Refused (refusal InvalidUnit 0)
+at-the-limit = refl
+
+pub above-the-limit : answerOf (outcome ucs4 utf16 (replicate 65537 0x80000000)) ≡ Refused (refusal SourceTooLong 0)
+above-the-limit = refl
+
+-- the listing's starts and lengths; the code units of its items, joined, are the text; the place of a refusal
+abbrev joined : List (List ℕ) → List ℕ
+joined [] = []
+joined (e ∷ es) = e ++ joined es
+
+pub listed-starts : map (λ (i : Item). (spanOf i) .offset) (items fssUtf listing) ≡ 0 ∷ 1 ∷ 3 ∷ 4 ∷ 6 ∷ []
+listed-starts = refl
+
+pub listed-lengths : map (λ (i : Item). (spanOf i) .length) (items fssUtf listing) ≡ 1 ∷ 2 ∷ 1 ∷ 2 ∷ 1 ∷ []
+listed-lengths = refl
+
+pub listed-units : joined (map units (sequences fssUtf listing)) ≡ listing
+listed-units = refl
+
+pub refused-place : (refusal Unrepresentable 1) .offset ≡ 1
+refused-place = refl
+
+-- the longest item of each form
+pub longest-items : map (λ (F : Form). F .longest) (fssUtf ∷ utfEbcdic ∷ utf16 ∷ ucs4 ∷ []) ≡ 6 ∷ 7 ∷ 2 ∷ 1 ∷ []
+longest-items = refl
+
+abbrev upFrom : ℕ → ℕ → List ℕ
+upFrom i zero = []
+upFrom i (suc n) = i ∷ upFrom (suc i) n
+
+-- "It holds each of the 256 bytes once"
+pub each-byte-once : (map (λ x. ebcdicOf (i8Of x)) (upFrom 0 0x100) ≡ upFrom 0 0x100) × (map (λ x. i8Of (ebcdicOf x)) (upFrom 0 0x100) ≡ upFrom 0 0x100)
+each-byte-once = (refl, refl)
+
+-- the shadow flags of the I8 bytes at both ends of each range
+pub flags :
+    map (λ x. flagOf (ebcdicOf x)) (0x00 ∷ 0x1F ∷ 0x20 ∷ 0x7E ∷ 0x7F ∷ 0x9F ∷ 0xA0 ∷ 0xBF ∷ 0xC0 ∷ 0xDF ∷ 0xE0 ∷ 0xEF ∷ 0xF0 ∷ 0xF7 ∷ 0xF8 ∷ 0xFB ∷ 0xFC ∷ 0xFD ∷ 0xFE ∷ 0xFF ∷ [])
+    ≡ 0 ∷ 0 ∷ 1 ∷ 1 ∷ 0 ∷ 0 ∷ 9 ∷ 9 ∷ 2 ∷ 2 ∷ 3 ∷ 3 ∷ 4 ∷ 4 ∷ 5 ∷ 5 ∷ 6 ∷ 6 ∷ 7 ∷ 7 ∷ []
+flags = refl
+
+not-empty : (u : ℕ) (us : List ℕ) → u ∷ us ≢ []
+not-empty u us e = absurd (let z : _≡_ {A = ℕ} 0 1 = cc in omega arith)
+
+-- C2 A9 is a good character, and stands where a text has it; no units are none
+pub well-formed : WellFormed fssUtf (0xC2 ∷ 0xA9 ∷ [])
+well-formed = record { value = 0xA9; has = not-empty _ _; same = refl }
+
+pub occurs : OccursAt fssUtf (0x41 ∷ 0xC2 ∷ 0xA9 ∷ 0x80 ∷ []) 1 0xA9
+occurs = record { has = not-empty _ _; after = 0x80 ∷ []; begins = refl }
+
+pub no-units : (F : Form) → WellFormed F [] → ⊥
+no-units F w = w .has (sym (w .same))
+
+pub no-encoding : (F : Form) (s : List ℕ) (p v : ℕ) → encode F v ≡ [] → OccursAt F s p v → ⊥
+no-encoding F s p v e o = o .has e
