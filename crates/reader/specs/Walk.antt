@@ -1,10 +1,8 @@
 -- Reading on from a cursor, step by step: at most so many steps, until End.
 use Prim.Native.Nat.{ℕ, zero, suc, _+_}
 use mathlib.Core.List.{List, [], _∷_}
-use Rattle.forms.specs.declared.Fault.{Fault}
 use Rattle.forms.specs.declared.Item.{Item}
 use Rattle.forms.specs.declared.Item.the-variants.{Character, Mark}
-use Rattle.forms.specs.Fault.{refusal}
 use Rattle.forms.specs.Form.{Form, span}
 use Rattle.reader.specs.Step.{cursor, stepAt}
 use Rattle.reader.specs.declared.Cursor.{Cursor}
@@ -28,4 +26,4 @@ movedItem p (Mark f q) = Mark f (span (p + q .offset) (q .length))
 abbrev pub movedStep : ℕ → Step → Step
 movedStep p (Next i c) = Next (movedItem p i) (cursor (p + c .offset))
 movedStep p (End c) = End (cursor (p + c .offset))
-movedStep p (Refused r) = Refused (refusal (r .fault) (p + r .offset))
+movedStep p (Refused r) = Refused r
