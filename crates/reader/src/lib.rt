@@ -41,7 +41,7 @@ impl FssUtf {
     pub fn reader() -> Cursor
         ensures { λ r. ⌜ r ≡ cursor 0 ⌝ }
     {
-        Cursor { offset: 0 }
+        Cursor::start()
     }
 }
 
@@ -59,7 +59,7 @@ impl UtfEbcdic {
     pub fn reader() -> Cursor
         ensures { λ r. ⌜ r ≡ cursor 0 ⌝ }
     {
-        Cursor { offset: 0 }
+        Cursor::start()
     }
 }
 
@@ -77,7 +77,7 @@ impl Utf16 {
     pub fn reader() -> Cursor
         ensures { λ r. ⌜ r ≡ cursor 0 ⌝ }
     {
-        Cursor { offset: 0 }
+        Cursor::start()
     }
 }
 
@@ -95,11 +95,17 @@ impl Ucs4 {
     pub fn reader() -> Cursor
         ensures { λ r. ⌜ r ≡ cursor 0 ⌝ }
     {
-        Cursor { offset: 0 }
+        Cursor::start()
     }
 }
 
 impl Cursor {
+    pub fn start() -> Self
+        ensures { λ r. ⌜ r ≡ cursor 0 ⌝ }
+    {
+        Cursor { offset: 0 }
+    }
+
     pub fn step_fss_utf(self, text: &[u8]) -> Step
         ensures { λ r. ⌜ r ≡ stepAt fssUtf (now (text .entry)) self ⌝ }
     {
