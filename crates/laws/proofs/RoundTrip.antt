@@ -2,7 +2,7 @@
 use Prim.Native.Nat.{ℕ}
 use mathlib.Core.Path.{_≡_, refl, sym, ap, _∙_}
 use mathlib.Core.List.{List}
-use Rattle.forms.specs.Form.{Form, items, encodeAll}
+use Rattle.forms.specs.Form.{Form, items}
 use Rattle.forms.specs.Conversion.{converted, convertItems}
 use Rattle.laws.proofs.FormLaws.{Laws}
 use Rattle.laws.proofs.Characters.{items-characters, convert-characters, Accepted, accepted}
