@@ -1,39 +1,46 @@
 -- Strict conversion of a text to another form: document 01, "Fault numbers".
 use Prim.Native.Nat.{ℕ}
+use mathlib.Core.Path.{_≡_}
 use mathlib.Core.Bool.{cond}
 use mathlib.Core.List.{List, [], _∷_, _++_}
-use mathlib.Core.Option.{Option, none, some}
 use lib.ListN.{length, drop}
 use lib.Dec.{ltb}
-use Rattle.forms.specs.declared.Fault.{Fault}
-use Rattle.forms.specs.declared.Fault.the-variants.{SourceTooLong, BufferTooShort}
+use Rattle.forms.specs.declared.Fault.the-variants.{SourceTooLong, Unrepresentable, BufferTooShort}
 use Rattle.forms.specs.declared.Item.{Item}
 use Rattle.forms.specs.declared.Item.the-variants.{Character, Mark}
 use Rattle.forms.specs.declared.Refusal.{Refusal}
 use Rattle.forms.specs.declared.Conversion.{Conversion}
 use Rattle.forms.specs.declared.Conversion.the-variants.{Units, Refused}
 use Rattle.forms.specs.Fault.{limit, refusal}
-use Rattle.forms.specs.Form.{Form, items}
+use Rattle.forms.specs.Form.{Form, items, encode}
 
 -- the units of the result, or the refusal
 pub data Outcome : Type 0 where
   converted : List ℕ → Outcome
   refused : Refusal → Outcome
 
+-- the units that an item becomes: the legal encoding of a character, none for a mark
+abbrev pub encoding : Form → Item → List ℕ
+encoding G (Character v p) = encode G v
+encoding G (Mark f p) = []
+
+-- the refusal where it becomes none: a mark's fault; 6 for a character that the target cannot hold
+abbrev pub refusalAt : Item → Refusal
+refusalAt (Character v p) = refusal Unrepresentable (p .offset)
+refusalAt (Mark f p) = refusal f (p .offset)
+
 abbrev pub prepend : List ℕ → Outcome → Outcome
 prepend e (converted es) = converted (e ++ es)
 prepend e (refused r) = refused r
 
--- a character goes into the result, unless the target cannot hold its value
-abbrev pub put : Form → ℕ → ℕ → Option Fault → Outcome → Outcome
-put G v p none rest = prepend (G .shortest v) rest
-put G v p (some f) rest = refused (refusal f p)
+abbrev pub put : List ℕ → Refusal → Outcome → Outcome
+put [] r rest = refused r
+put (u ∷ e) r rest = prepend (u ∷ e) rest
 
 -- the items in turn: the lowest place at which a fault applies decides
 abbrev pub convertItems : Form → List Item → Outcome
 convertItems G [] = converted []
-convertItems G (Character v p ∷ is) = put G v (p .offset) (G .excluded v) (convertItems G is)
-convertItems G (Mark f p ∷ is) = refused (refusal f (p .offset))
+convertItems G (i ∷ is) = put (encoding G i) (refusalAt i) (convertItems G is)
 
 -- what the measure goes by: fault 1, then the faults of the items
 abbrev pub outcome : Form → Form → List ℕ → Outcome
@@ -53,3 +60,8 @@ answerOf (refused r) = Refused r
 abbrev pub cellsOf : Outcome → List ℕ → List ℕ
 cellsOf (converted es) d = es ++ drop (length es) d
 cellsOf (refused r) d = d
+
+-- what a converter promises: its answer r, and that the result buffer d became o
+pub record Converts (F G : Form) (s d : List ℕ) (r : Conversion) (o : List ℕ) : Type 0 where
+  pub answer : r ≡ answerOf (inRoom (length d) (outcome F G s))
+  pub cells : o ≡ cellsOf (inRoom (length d) (outcome F G s)) d

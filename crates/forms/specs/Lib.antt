@@ -5,4 +5,5 @@ pub mod Exchange
 pub mod Forms
 pub mod LayoutTable
 pub mod Flags
+pub mod Buffer
 pub mod Conversion

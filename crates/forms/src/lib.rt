@@ -1,10 +1,11 @@
 // The types that every call speaks in: faults, items and refusals.
 //
 // The rules of document 01 are the definitions of `specs/`: `Fault` the fault numbers, `Form` how a text falls into items,
-// `Layout`, `Exchange` and `Forms` the four forms, `Flags` the shadow flags, `Conversion` strict conversion.
+// `Layout`, `Exchange` and `Forms` the four forms, `Flags` the shadow flags, `Buffer` result buffers, `Conversion` strict conversion.
 ghost use mathlib.Core.Path.{_≡_};
-ghost use Rattle.forms.specs.Fault.{numberOf};
+ghost use Rattle.forms.specs.Fault.{numberOf, refusal};
 ghost use Rattle.forms.specs.Form.{spanOf};
+ghost use Rattle.forms.specs.Conversion.{refusalAt};
 
 // Document 01's faults, in the order of their numbers.
 pub enum Fault {
@@ -57,12 +58,57 @@ impl Item {
             Item::Mark(_, span) => span,
         }
     }
+
+    // Why a conversion stops at this item: a mark's fault, or 6 where the target cannot hold the character.
+    pub fn refusal(self) -> Refusal
+        ensures { λ r. ⌜ r ≡ refusalAt self ⌝ }
+    {
+        match self {
+            Item::Character(_, span) => Refusal {
+                fault: Fault::Unrepresentable,
+                offset: span.offset,
+            },
+            Item::Mark(fault, span) => Refusal {
+                fault,
+                offset: span.offset,
+            },
+        }
+    }
 }
 
 // Document 01's refusal: why a call gave no result, and the offset that the fault concerns.
 pub struct Refusal {
     pub fault: Fault,
     pub offset: usize,
+}
+
+impl Refusal {
+    pub fn source_too_long() -> Self
+        ensures { λ r. ⌜ r ≡ refusal Fault.SourceTooLong 0 ⌝ }
+    {
+        Refusal {
+            fault: Fault::SourceTooLong,
+            offset: 0,
+        }
+    }
+
+    pub fn buffer_too_short() -> Self
+        ensures { λ r. ⌜ r ≡ refusal Fault.BufferTooShort 0 ⌝ }
+    {
+        Refusal {
+            fault: Fault::BufferTooShort,
+            offset: 0,
+        }
+    }
+
+    pub fn offset_out_of_range(offset: usize) -> Self
+        ensures { λ r. ⌜ r ≡ refusal Fault.OffsetOutOfRange offset ⌝ }
+    {
+        Refusal {
+            fault: Fault::OffsetOutOfRange,
+            offset,
+        }
+    }
 }
 
 // The answer of a strict conversion or of its measure: the code units written or needed, or the refusal.

@@ -18,7 +18,8 @@ use Rattle.tables.specs.ByteForms.{byteForm, layoutOf, plainOf, roleNumber}
 use Rattle.tables.specs.declared.ByteForm.{ByteForm}
 use Rattle.items.specs.ItemAt.{itemAt}
 use Rattle.items.specs.Tail.{TailIs}
-use Rattle.items.proofs.Plain.{passes, fits, rise, not-excluded, plainText, item-plain, role-trailing, role-invalid, role-lead, lead-in-row}
+use Rattle.tables.proofs.ByteLayouts.{passes, fits, rise, not-excluded}
+use Rattle.items.proofs.Plain.{plainText, item-plain, role-trailing, role-invalid, role-lead, lead-in-row}
 
 module _ (f : ByteForm) (s : List ℕ) (p n : ℕ) (e : n ≡ roleNumber (byteForm f .role (getD s p 0))) where
   pub trailing-alone : n ≡ 9 → Mark StrayTrailing (span p 1) ≡ itemAt (byteForm f) s p

@@ -1,43 +1,22 @@
 -- A text of a byte form, each byte as the byte of the layout that it stands for: it reads alike.
 use Prim.Native.Nat.{ℕ, zero, suc, _+_, _-_, _≤_, _<_}
 use mathlib.Core.Path.{_≡_, refl, sym, ap, _∙_}
-use mathlib.Core.Bool.{true, false}
+use mathlib.Core.Bool.{false}
 use mathlib.Core.List.{List, [], _∷_, map, map-id}
-use mathlib.Core.Option.{none}
 use native.Mathlib.Omega.{arith}
 use lib.ListN.{length, getD, drop, length-map, List·getD-map}
-use borrow.Author.Tests.{le-ltb}
 use Rattle.forms.specs.Form.{Role, lead, trailing, invalid, Sequence, Form, isTrailing, firstOf, itemOf}
-use Rattle.forms.specs.Layout.{Layout, roleOf, rowAt, rowLimit, formOf}
+use Rattle.forms.specs.Layout.{Layout, roleOf, formOf}
 use Rattle.forms.specs.Exchange.{i8Of, ebcdicOf}
 use Rattle.forms.specs.Forms.{byteLayout, fssUtf, i8, utfEbcdic}
-use Rattle.laws.proofs.LayoutLaws.{Fit, InRow, in-row}
-use Rattle.laws.proofs.AscendingRows.{ascending, ascending-fits, limits-rise, row-of}
+use Rattle.laws.proofs.LayoutLaws.{InRow, in-row}
 use Rattle.laws.proofs.Exchanged.{item-exchanged, first-exchanged}
 use Rattle.laws.proofs.ExchangeTable.{exchange-byte}
 use Rattle.tables.specs.ByteForms.{byteForm, layoutOf, plainOf, roleNumber}
 use Rattle.tables.specs.declared.ByteForm.{ByteForm}
 use Rattle.tables.specs.declared.ByteForm.the-variants.{FssUtf, UtfEbcdic}
 use Rattle.tables.proofs.Agreement.{most-rows}
-
--- both layouts pass the one test, so what is proved from it holds of both
-pub passes : (f : ByteForm) → ascending (layoutOf f) ≡ true
-passes FssUtf = refl
-passes UtfEbcdic = refl
-
-pub fits : (f : ByteForm) → Fit (layoutOf f)
-fits f = ascending-fits (layoutOf f) (passes f)
-
-pub rise : (f : ByteForm) (k : ℕ) → suc k < length (layoutOf f .rows) → rowLimit (layoutOf f) k ≤ rowLimit (layoutOf f) (suc k)
-rise f = limits-rise (layoutOf f) (passes f)
-
-pub radix-positive : (f : ByteForm) → 0 < layoutOf f .radix
-radix-positive FssUtf = omega arith
-radix-positive UtfEbcdic = omega arith
-
-pub not-excluded : (f : ByteForm) (v : ℕ) → v < 0x80000000 → layoutOf f .excluded v ≡ none
-not-excluded FssUtf v h = rw (le-ltb 0x7FFFFFFF v (omega arith))
-not-excluded UtfEbcdic v h = rw (le-ltb 0x7FFFFFFF v (omega arith))
+use Rattle.tables.proofs.ByteLayouts.{fits}
 
 abbrev pub plainText : ByteForm → List ℕ → List ℕ
 plainText f s = map (plainOf f) s

@@ -16,7 +16,7 @@ use Rattle.forms.specs.declared.Item.the-variants.{Character, Mark}
 use Rattle.forms.specs.declared.Span.{Span}
 use Rattle.forms.specs.declared.Refusal.{Refusal}
 use Rattle.forms.specs.Form.{Role, lead, trailing, invalid, Sequence, sequence, units, size, Form, asked, firstOf, sequencesAfter, sequences, Content, character, mark, fullContent, contentAs, content, span, withSpan, itemOf, itemsFrom, items, unless, encode}
-use Rattle.forms.specs.Conversion.{Outcome, converted, refused, prepend, put, convertItems}
+use Rattle.forms.specs.Conversion.{Outcome, converted, refused, encoding, refusalAt, prepend, put, convertItems}
 use Rattle.laws.proofs.Sequences.{Full, AllTrailing, joined, taken-trailing, sequences-full, sequences-joined}
 use Rattle.laws.proofs.FormLaws.{Reads, Laws}
 
@@ -71,6 +71,14 @@ module _ (F : Form) where
   all-taken (u ∷ us) (suc k) = all-taken us k
 
 module _ (F : Form) (laws : Laws F) where
+  -- a legal encoding is no longer than the longest item
+  longest-of : (v : ℕ) (e : List ℕ) → encode F v ≡ e → length e ≤ F .longest
+  longest-of v [] q = omega arith
+  longest-of v (u ∷ t) q = laws .reach u (length t) (laws .legal v (sequence u t) q .full .leads)
+
+  pub encode-longest : (v : ℕ) → length (encode F v) ≤ F .longest
+  encode-longest v = longest-of v (encode F v) refl
+
   -- well-formed characters at the front are read as themselves
   read-one :
       (p v : ℕ) (e r : List ℕ) → encode F v ≡ e → e ≢ []
@@ -93,19 +101,25 @@ module _ (F : Form) (laws : Laws F) where
   items-characters vs a =
       ap (items F) (sym (append-nil (encodeAll F vs))) ∙ read-characters vs 0 [] a ∙ append-nil (charactersFrom F 0 vs)
 
-unless-some : (o : Option Fault) (e : List ℕ) → o ≡ none → unless o e ≡ e
-unless-some o e h = rw h
+pub prepend-converted : (e es : List ℕ) (o : Outcome) → prepend e o ≡ converted es → (fs : List ℕ) × (o ≡ converted fs) × (es ≡ e ++ fs)
+prepend-converted e es (converted fs) h = (fs, refl, cc)
+prepend-converted e es (refused r) h = absurd (let z : _≡_ {A = ℕ} 0 1 = cc in omega arith)
 
-module _ (F : Form) (laws : Laws F) (G : Form) (target : Laws G) where
+-- what is put is no empty encoding, or it is a refusal
+pub put-some : (e : List ℕ) (r : Refusal) (o : Outcome) → e ≢ [] → put e r o ≡ prepend e o
+put-some [] r o n = absurd (n refl)
+put-some (u ∷ e) r o n = refl
+
+pub put-converted : (e es : List ℕ) (r : Refusal) (o : Outcome) → put e r o ≡ converted es → (e ≢ []) × (prepend e o ≡ converted es)
+put-converted [] es r o h = absurd (let z : _≡_ {A = ℕ} 0 1 = cc in omega arith)
+put-converted (u ∷ e) es r o h = ((λ n. let z : _≡_ {A = ℕ} 0 1 = cc in omega arith), h)
+
+module _ (F : Form) (laws : Laws F) (G : Form) where
   -- characters that the target holds are converted one by one
-  put-one : (v p : ℕ) (rest : Outcome) (o : Option Fault) → G .excluded v ≡ o → encode G v ≢ [] → put G v p o rest ≡ prepend (encode G v) rest
-  put-one v p rest none e n = rw e
-  put-one v p rest (some f) e n = absurd (n (rw e))
-
   pub convert-characters : (vs : List ℕ) (p : ℕ) → AllEncodable G vs → convertItems G (charactersFrom F p vs) ≡ converted (encodeAll G vs)
   convert-characters [] p a = refl
   convert-characters (v ∷ vs) p a =
-      put-one v p (convertItems G (charactersFrom F (p + length (encode F v)) vs)) (G .excluded v) refl (a .0)
+      put-some (encode G v) (refusalAt (Character v (span p (length (encode F v))))) (convertItems G (charactersFrom F (p + length (encode F v)) vs)) (a .0)
       ∙ ap (prepend (encode G v)) (convert-characters vs (p + length (encode F v)) (a .1))
 
   -- what an accepted text is: characters of values that both forms have encodings of
@@ -116,31 +130,20 @@ module _ (F : Form) (laws : Laws F) (G : Form) (target : Laws G) where
     pub from : AllEncodable F values
     pub to : AllEncodable G values
 
-  prepend-converted : (e es : List ℕ) (o : Outcome) → prepend e o ≡ converted es → (fs : List ℕ) × (o ≡ converted fs) × (es ≡ e ++ fs)
-  prepend-converted e es (converted fs) h = (fs, refl, cc)
-  prepend-converted e es (refused r) h = absurd (let z : _≡_ {A = ℕ} 0 1 = cc in omega arith)
-
-  put-converted :
-      (v p : ℕ) (es : List ℕ) (rest : Outcome) (o : Option Fault) → G .excluded v ≡ o → put G v p o rest ≡ converted es
-      → (G .excluded v ≡ none) × (prepend (G .shortest v) rest ≡ converted es)
-  put-converted v p es rest none e h = (e, h)
-  put-converted v p es rest (some f) e h = absurd (let z : _≡_ {A = ℕ} 0 1 = cc in omega arith)
-
-  encoding-of : (v : ℕ) (c : Sequence) → encode F v ≡ units c → encode F v ≢ []
-  encoding-of v c e n = let z : _≡_ {A = ℕ} 0 1 = cc in omega arith
+  not-empty : (v : ℕ) (c : Sequence) → encode F v ≡ units c → encode F v ≢ []
+  not-empty v c e n = let z : _≡_ {A = ℕ} 0 1 = cc in omega arith
 
   accept-one :
-      (c : Sequence) (v : ℕ) (cs : List Sequence) (es fs : List ℕ) → Reads F c v → G .excluded v ≡ none → es ≡ G .shortest v ++ fs
+      (c : Sequence) (v : ℕ) (cs : List Sequence) (es fs : List ℕ) → Reads F c v → encode G v ≢ [] → es ≡ encode G v ++ fs
       → Accepted (joined cs) fs → Accepted (units c ++ joined cs) es
   accept-one c v cs es fs r x e a =
       let l = laws .only c v r in
-      let k : encode G v ≡ G .shortest v = unless-some (G .excluded v) (G .shortest v) x in
       record {
         values = v ∷ a .values;
         source = ap (λ (x : List ℕ). x ++ joined cs) (sym l) ∙ ap (λ (y : List ℕ). encode F v ++ y) (a .source);
-        result = e ∙ ap (λ (x : List ℕ). x ++ fs) (sym k) ∙ ap (λ (y : List ℕ). encode G v ++ y) (a .result);
-        from = (encoding-of v c l, a .from);
-        to = ((λ n. target .carries v (laws .small c v r) x (sym k ∙ n)), a .to);
+        result = e ∙ ap (λ (y : List ℕ). encode G v ++ y) (a .result);
+        from = (not-empty v c l, a .from);
+        to = (x, a .to);
       }
 
   accept : (cs : List Sequence) (p : ℕ) (es : List ℕ) → AllTaken F cs → convertItems G (itemsFrom F p cs) ≡ converted es → Accepted (joined cs) es
@@ -153,8 +156,9 @@ module _ (F : Form) (laws : Laws F) (G : Form) (target : Laws G) where
           → convertItems G (withSpan t (span p (size c)) ∷ itemsFrom F (p + size c) cs) ≡ converted es → Accepted (units c ++ joined cs) es
       go (mark f) e k h = absurd (let z : _≡_ {A = ℕ} 0 1 = cc in omega arith)
       go (character v) e k h =
-          let q = put-converted v p es (convertItems G (itemsFrom F (p + size c) cs)) (G .excluded v) refl h in
-          let r = prepend-converted (G .shortest v) es (convertItems G (itemsFrom F (p + size c) cs)) (q .1) in
+          let o = convertItems G (itemsFrom F (p + size c) cs) in
+          let q = put-converted (encode G v) es (refusalAt (Character v (span p (size c)))) o h in
+          let r = prepend-converted (encode G v) es o (q .1) in
           accept-one c v cs es (r .0) (content-reads F c v (a .0) e) (q .0) (r .2) (k (r .0) (a .1) (r .1))
 
   pub accepted : (s es : List ℕ) → convertItems G (items F s) ≡ converted es → Accepted s es

@@ -1,9 +1,9 @@
 -- Trailing units as digits to a radix: what they number, and how a number is written with them.
 use Prim.Native.Nat.{ℕ, zero, suc, _+_, _-_, _*_, _/_, _%_, _^_, _≤_, _<_}
-use mathlib.Core.Path.{_≡_, refl, ap, _∙_}
-use mathlib.Core.List.{List, [], _∷_}
+use mathlib.Core.Path.{_≡_, refl, sym, ap, _∙_}
+use mathlib.Core.List.{List, [], _∷_, _++_}
 use native.Mathlib.Omega.{arith}
-use native.Mathlib.Nat.{add-zero, pow-zero, pow-succ', mul-le-mul-right, mul-add-div-right, div-eq-of-lt, mul-add-mod-self-right, mod-eq-of-lt, mod-lt, div-add-mod', div-lt-iff-lt-mul, add-sub-cancel-left}
+use native.Mathlib.Nat.{add-zero, pow-zero, pow-suc, one-le-pow, pow-succ', one-mul, mul-comm, mul-assoc, mul-pos, mul-le-mul-right, mul-add-div-right, div-one, div-eq-of-lt, div-div-eq-div-mul, mul-add-mod-self-right, mod-eq-of-lt, mod-lt, div-add-mod', div-lt-iff-lt-mul, add-sub-cancel-left}
 use lib.ListN.{length}
 use Rattle.forms.specs.Layout.{number, digits}
 
@@ -59,3 +59,36 @@ digits-all low R (suc k) v p h = (
   (omega arith, omega (arith, div-lt-iff-lt-mul (p k (omega arith)) .1 (rw pow-succ' at h))),
   digits-all low R k (v % R ^ k) (λ j l. p j (omega arith)) (mod-lt v (p k (omega arith))),
 )
+
+-- the last digit apart: dividing by the radix takes it off
+module _ (R P w : ℕ) (p : 0 < R) (q : 0 < P) where
+  parts : w ≡ (w / (R * P)) * P * R + w % (R * P)
+  parts =
+      let e : w / (R * P) * (R * P) ≡ (w / (R * P)) * P * R = ap (λ (x : ℕ). w / (R * P) * x) (mul-comm R P) ∙ sym (mul-assoc (w / (R * P)) P R) in
+      omega (arith, div-add-mod' w (R * P))
+
+  pub last-off : (w % (R * P)) / R ≡ (w / R) % P
+  last-off =
+      let r = w % (R * P) in
+      let l : r / R < P = div-lt-iff-lt-mul p .1 (rw (mul-comm P R) (mod-lt w (mul-pos p q))) in
+      sym (ap (λ (x : ℕ). (x / R) % P) parts ∙ ap (λ (x : ℕ). x % P) (mul-add-div-right p ((w / (R * P)) * P) r) ∙ mul-add-mod-self-right (w / (R * P)) P (r / R) ∙ mod-eq-of-lt l)
+
+  pub last-same : (w % (R * P)) % R ≡ w % R
+  last-same = sym (ap (λ (x : ℕ). x % R) parts ∙ mul-add-mod-self-right ((w / (R * P)) * P) R (w % (R * P)))
+
+-- a lead from `first` on and k trailing units, written from the last to the first
+abbrev pub spelledFrom : ℕ → ℕ → ℕ → ℕ → ℕ → List ℕ
+spelledFrom first low R k v = (first + v / R ^ k) ∷ digits low R k (v % R ^ k)
+
+pub length-spelled-from : (first low R k v : ℕ) → length (spelledFrom first low R k v) ≡ suc k
+length-spelled-from first low R k v = ap suc (length-digits low R k (v % R ^ k))
+
+pub spelled-last :
+    (first low R k v : ℕ) → 0 < R → spelledFrom first low R (suc k) v ≡ spelledFrom first low R k (v / R) ++ ((low + v % R) ∷ [])
+spelled-last first low R zero v p =
+    rw (pow-suc R 0, pow-zero R, one-mul R, div-one (v % R), div-one (v / R))
+spelled-last first low R (suc k) v p =
+    let q = one-le-pow (suc k) R p in
+    rw (pow-succ' R (suc k), ← div-div-eq-div-mul v R (R ^ suc k))
+    (ap {B = List ℕ} (λ (x : List ℕ). (first + v / R / R ^ suc k) ∷ x)
+    (spelled-last low low R k (v % (R * R ^ suc k)) p ∙ rw (last-off R (R ^ suc k) v p q, last-same R (R ^ suc k) v p q)))

@@ -33,7 +33,7 @@ module _ (L : Layout) (ok : ascending L ≡ true) (k : ℕ) (h : k < length (L .
       let a : z .at ≡ k = omega (arith, length-shortest L fits v z) in
       (lowest-spelled v z k a, rw a at (z .below))
 
-  between-spelled : (v : ℕ) → lowestOf L k ≤ v → v < rowLimit L k → length (formOf L .shortest v) ≡ suc k
+  pub between-spelled : (v : ℕ) → lowestOf L k ≤ v → v < rowLimit L k → length (formOf L .shortest v) ≡ suc k
   between-spelled v l b =
       let z = spelling-below L fits k v h b in
       let m : k ≤ z .at = at-least L fits (limits-rise L ok) k v h z l in

@@ -14,3 +14,5 @@ pub mod LayoutTable
 pub mod Items
 pub mod Characters
 pub mod RoundTrip
+pub mod Buffers
+pub mod Progress

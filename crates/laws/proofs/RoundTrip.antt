@@ -9,8 +9,8 @@ use Rattle.laws.proofs.Characters.{items-characters, convert-characters
 
 pub there-and-back : (F G : Form) → Laws F → Laws G → (s es : List ℕ) → convertItems G (items F s) ≡ converted es → convertItems F (items G es) ≡ converted s
 there-and-back F G source target s es h =
-    let a = accepted F source G target s es h in
+    let a = accepted F source G s es h in
     ap (λ (x : List ℕ). convertItems F (items G x)) (a .result)
     ∙ ap (convertItems F) (items-characters G target (a .values) (a .to))
-    ∙ convert-characters G target F source (a .values) 0 (a .from)
+    ∙ convert-characters G target F (a .values) 0 (a .from)
     ∙ ap converted (sym (a .source))

@@ -1,5 +1,4 @@
 pub mod Appending
 pub mod Digits
 pub mod Lines
-pub mod Buffers
 pub mod Turns

@@ -9,13 +9,13 @@ use Rattle.forms.specs.declared.Item.{Item}
 use Rattle.forms.specs.declared.Item.the-variants.{Character, Mark}
 use Rattle.forms.specs.Form.{Form, size, spanOf, itemOf, items}
 use Rattle.forms.specs.Forms.{fssUtf}
+use Rattle.forms.specs.Buffer.{withUnits, Holds}
 use Rattle.laws.proofs.Spans.{size-longest}
 use Rattle.laws.proofs.Items.{itemsOnward, sequenceAt, items-end, items-step, length-at, offset-at, within-at}
 use Rattle.laws.proofs.FourForms.{fssUtf-laws}
 use Rattle.items.specs.ItemAt.{itemAt}
-use Rattle.lines.specs.Line.{withText, Holds}
 use Rattle.lines.specs.Listing.{header, line, lines, markCount, marks, total, listingOf}
-use Rattle.lines.proofs.Buffers.{holds-first, holds-more}
+use Rattle.laws.proofs.Buffers.{holds-first, holds-more}
 
 -- since the loop began at (written₀, out₀) the lines `added` were put in; they and those of the items from `at` on are all the lines
 pub record Listed (s : List ℕ) (written₀ : ℕ) (out₀ out : List ℕ) (written at count marked : ℕ) : Type 0 where
@@ -65,7 +65,7 @@ module _ (s : List ℕ) (p : ℕ) (h : p < length s) (i : Item) (e : i ≡ itemA
 
   pub listed-more :
       (written₀ : ℕ) (out₀ out : List ℕ) (written count marked : ℕ) → Listed s written₀ out₀ out written p count marked
-      → (text after : List ℕ) (to m : ℕ) → text ≡ line i → length text ≤ 18 → to ≡ written + length text → after ≡ withText out written text → length after ≡ length out
+      → (text after : List ℕ) (to m : ℕ) → text ≡ line i → length text ≤ 18 → to ≡ written + length text → after ≡ withUnits out written text → length after ≡ length out
       → m ≡ markCount i → Listed s written₀ out₀ after to (p + (spanOf i) .length) (count + 1) (marked + m)
   listed-more written₀ out₀ out written count marked l text after to m t b q w c k =
       let z : (spanOf i) .length ≡ size (sequenceAt fssUtf s p) = item-length in
@@ -85,7 +85,7 @@ module _ (s : List ℕ) (p : ℕ) (h : p < length s) (i : Item) (e : i ≡ itemA
 -- at the end of the text all lines are there, behind the header, and the total follows
 pub listed-end :
     (s : List ℕ) (d out₀ out after : List ℕ) (written₀ written at count marked to : ℕ) → Listed s written₀ out₀ out written at count marked → length s ≤ at
-    → Holds d header written₀ out₀ → (text : List ℕ) → text ≡ total count marked → to ≡ written + length text → after ≡ withText out written text
+    → Holds d header written₀ out₀ → (text : List ℕ) → text ≡ total count marked → to ≡ written + length text → after ≡ withUnits out written text
     → Holds d (listingOf (items fssUtf s)) to after
 listed-end s d out₀ out after written₀ written at count marked to l h b text t q w =
     let n : itemsOnward fssUtf s at ≡ [] = items-end fssUtf s at h in

@@ -9,7 +9,8 @@ ghost use Prim.Native.Nat.{_+_, _<_, _≤_};
 ghost use lib.ListN.{length};
 ghost use Rattle.forms.specs.Form.{spanOf, items};
 ghost use Rattle.forms.specs.Forms.{fssUtf};
-ghost use Rattle.lines.specs.Line.{textOf, withText, Holds};
+ghost use Rattle.forms.specs.Buffer.{withUnits, Holds};
+ghost use Rattle.lines.specs.Line.{textOf};
 ghost use Rattle.lines.specs.Listing.{header, line, total, markCount, listingOf, listing};
 
 // The listing of the first 4,096 bytes of a text. A buffer of 73,769 bytes holds the longest: a header of 18, 4,096 lines of at most 18
@@ -45,7 +46,7 @@ fn list(text: &[u8], out: &mut [u8]) -> usize
 // Puts a line into the buffer from an offset on, and answers the offset behind it.
 fn put(out: &mut [u8], at: usize, added: Line) -> usize
     requires { ⌜ (added .length ≤ 32) × (at + added .length ≤ length (now out)) ⌝ }
-    ensures { λ r. ⌜ (r ≡ at + length (textOf added)) × (now (out .exit) ≡ withText (now (out .entry)) at (textOf added)) ⌝ }
+    ensures { λ r. ⌜ (r ≡ at + length (textOf added)) × (now (out .exit) ≡ withUnits (now (out .entry)) at (textOf added)) ⌝ }
 {
     let n = added.length;
     let mut i: usize = 0;

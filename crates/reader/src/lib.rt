@@ -2,14 +2,12 @@
 //
 // A reader's state is a `Cursor`. `FssUtf::reader()` starts one, and `step_fss_utf` gives the item there with the next cursor. `specs/Step`
 // says what a step gives; the rules are those of `forms`.
-use forms::Fault;
 use forms::Item;
 use forms::Refusal;
 use tables::ByteForm;
 ghost use mathlib.Core.Path.{_≡_};
 ghost use Prim.Native.Nat.{_+_, _≤_};
 ghost use lib.ListN.{length};
-ghost use Rattle.forms.specs.Fault.{refusal};
 ghost use Rattle.forms.specs.Form.{spanOf};
 ghost use Rattle.forms.specs.Forms.{fssUtf, utfEbcdic, utf16, ucs4};
 ghost use Rattle.tables.specs.ByteForms.{byteForm};
@@ -123,10 +121,10 @@ impl Cursor {
     {
         let offset = self.offset;
         if 65536 < text.len() {
-            return Step::Refused(source_too_long());
+            return Step::Refused(Refusal::source_too_long());
         }
         if text.len() < offset {
-            return Step::Refused(offset_out_of_range(offset));
+            return Step::Refused(Refusal::offset_out_of_range(offset));
         }
         if text.len() == offset {
             return Step::End(self);
@@ -139,10 +137,10 @@ impl Cursor {
     {
         let offset = self.offset;
         if 65536 < text.len() {
-            return Step::Refused(source_too_long());
+            return Step::Refused(Refusal::source_too_long());
         }
         if text.len() < offset {
-            return Step::Refused(offset_out_of_range(offset));
+            return Step::Refused(Refusal::offset_out_of_range(offset));
         }
         if text.len() == offset {
             return Step::End(self);
@@ -155,10 +153,10 @@ impl Cursor {
     {
         let offset = self.offset;
         if 65536 < text.len() {
-            return Step::Refused(source_too_long());
+            return Step::Refused(Refusal::source_too_long());
         }
         if text.len() < offset {
-            return Step::Refused(offset_out_of_range(offset));
+            return Step::Refused(Refusal::offset_out_of_range(offset));
         }
         if text.len() == offset {
             return Step::End(self);
@@ -178,23 +176,5 @@ impl Cursor {
                 offset: self.offset + span.length,
             },
         )
-    }
-}
-
-fn source_too_long() -> Refusal
-    ensures { λ r. ⌜ r ≡ refusal Fault.SourceTooLong 0 ⌝ }
-{
-    Refusal {
-        fault: Fault::SourceTooLong,
-        offset: 0,
-    }
-}
-
-fn offset_out_of_range(offset: usize) -> Refusal
-    ensures { λ r. ⌜ r ≡ refusal Fault.OffsetOutOfRange offset ⌝ }
-{
-    Refusal {
-        fault: Fault::OffsetOutOfRange,
-        offset,
     }
 }

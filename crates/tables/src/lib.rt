@@ -6,7 +6,7 @@ ghost use mathlib.Core.Path.{_≡_};
 ghost use Prim.Native.Nat.{_<_, _≤_};
 ghost use lib.ListN.{length};
 ghost use Rattle.forms.specs.Layout.{rowAt, lowestOf};
-ghost use Rattle.tables.specs.ByteForms.{layoutOf, byteForm, plainOf, roleNumber};
+ghost use Rattle.tables.specs.ByteForms.{layoutOf, byteForm, plainOf, unitOf, roleNumber};
 
 // The two forms whose code units are bytes.
 pub enum ByteForm {
@@ -38,6 +38,16 @@ pub fn plain(form: ByteForm, byte: u8) -> u8
     match form {
         ByteForm::FssUtf => byte,
         ByteForm::UtfEbcdic => ebcdic::exchange(byte),
+    }
+}
+
+// The form's byte that stands for a byte of the layout.
+pub fn unit(form: ByteForm, plain: u8) -> u8
+    ensures { λ r. ⌜ r ≡ unitOf form plain ⌝ }
+{
+    match form {
+        ByteForm::FssUtf => plain,
+        ByteForm::UtfEbcdic => ebcdic::inverse(plain),
     }
 }
 

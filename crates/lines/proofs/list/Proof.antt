@@ -7,10 +7,11 @@ use lib.ListN.{length}
 use denote.Ref.{now}
 use Rattle.forms.specs.declared.Span.{Span}
 use Rattle.forms.specs.Form.{spanOf}
-use Rattle.lines.specs.Line.{textOf, withText, Holds}
+use Rattle.forms.specs.Buffer.{withUnits, Holds}
+use Rattle.lines.specs.Line.{textOf}
 use Rattle.lines.specs.Listing.{header}
 use Rattle.lines.proofs.Appending.{text-length}
-use Rattle.lines.proofs.Buffers.{holds-first, length-with}
+use Rattle.laws.proofs.Buffers.{holds-first, length-with}
 use Rattle.lines.proofs.Turns.{Listed, mark-most, listed-begin, item-length, item-offset, item-short, listed-more, listed-end}
 use Rattle.lines.proofs.list.Statement.{statement}
 use Rattle.lines.proofs.list.Tie as tie
@@ -35,7 +36,7 @@ begun : (c : Begun) → Holds (now (start c .args .out)) header (head c .put .re
 begun c =
     holds-first (now (start c .args .out)) header (head c .put .last .0) (head c .put .result)
     (head c .put .ensures .0 ∙ ap (λ (t : List ℕ). 0 + length t) (head c .before .header-line .ensures .0))
-    (head c .put .ensures .1 ∙ ap (withText (now (start c .args .out)) 0) (head c .before .header-line .ensures .0))
+    (head c .put .ensures .1 ∙ ap (withUnits (now (start c .args .out)) 0) (head c .before .header-line .ensures .0))
 
 first : (c : Begun) → head c .put .result ≡ 18
 first c = begun c .counted
@@ -43,7 +44,7 @@ first c = begun c .counted
 room : (c : Begun) → length (head c .put .last .0) ≡ length (now (start c .args .out))
 room c =
     length-with (now (start c .args .out)) header (head c .put .last .0) 0
-    (head c .put .ensures .1 ∙ ap (withText (now (start c .args .out)) 0) (head c .before .header-line .ensures .0)) (omega (arith, start c .pre .1))
+    (head c .put .ensures .1 ∙ ap (withUnits (now (start c .args .out)) 0) (head c .before .header-line .ensures .0)) (omega (arith, start c .pre .1))
 
 -- in the loop, behind the item's line
 abbrev Lined : Type 0

@@ -5,7 +5,7 @@ use borrow.Author.Needs.{needs}
 use lib.ListN.{length}
 use lib.Seq.{paste, length-take-le}
 use denote.Ref.{now}
-use Rattle.lines.proofs.Buffers.{copy-begin, copy-more, copy-length, copy-end}
+use Rattle.laws.proofs.Buffers.{copy-begin, copy-more, copy-length, copy-end}
 use Rattle.lines.proofs.put.Statement.{statement}
 use Rattle.lines.proofs.put.Tie as tie
 

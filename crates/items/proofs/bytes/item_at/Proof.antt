@@ -9,7 +9,7 @@ use Rattle.forms.specs.Layout.{rowAt}
 use Rattle.laws.proofs.LayoutLaws.{InRow}
 use Rattle.tables.specs.ByteForms.{layoutOf, plainOf}
 use Rattle.tables.specs.declared.ByteForm.{ByteForm}
-use Rattle.items.proofs.Plain.{fits}
+use Rattle.tables.proofs.ByteLayouts.{fits}
 use Rattle.items.proofs.ByteItems.{trailing-alone, invalid-alone, in-row, lead-room, count-most, missing, too-long, whole-character}
 use Rattle.items.proofs.bytes.item_at.Statement.{statement}
 use Rattle.items.proofs.bytes.item_at.Tie as tie

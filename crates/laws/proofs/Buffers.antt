@@ -1,4 +1,4 @@
--- Lines put into a buffer, one behind the other.
+-- Units put into a result buffer, one run behind the other.
 use Prim.Native.Nat.{ℕ, zero, suc, _+_, _-_, _≤_, _<_}
 use mathlib.Core.Path.{_≡_, refl, sym, ap, _∙_}
 use mathlib.Core.List.{List, [], _∷_, _++_, append-assoc}
@@ -6,9 +6,9 @@ use native.Mathlib.Omega.{arith}
 use native.Mathlib.Numerals.{add-one}
 use lib.ListN.{length, take, drop, set, getD, length-append, length-drop}
 use lib.Seq.{length-take-le, take-at, drop-at, drop-drop, paste, paste-zero, paste-suc, length-paste}
-use Rattle.lines.specs.Line.{withText, Holds}
+use Rattle.forms.specs.Buffer.{withUnits, Holds}
 
--- a loop that copies the first n bytes of b: it begins, turns and ends
+-- a loop that copies the first n units of b: it begins, turns and ends
 pub copy-begin : (d : List ℕ) (at : ℕ) (b : List ℕ) → d ≡ paste d at b 0
 copy-begin d at b = paste-zero d at b
 
@@ -20,10 +20,10 @@ copy-more d at b i o e h l = rw (e, add-one i) (paste-suc d at b i 0 h l)
 pub copy-length : (d : List ℕ) (at : ℕ) (b : List ℕ) (i : ℕ) (o : List ℕ) → o ≡ paste d at b i → at + i ≤ length d → i ≤ length b → length o ≡ length d
 copy-length d at b i o e h l = ap length e ∙ length-paste d at b i h l
 
-pub copy-end : (d : List ℕ) (at : ℕ) (b : List ℕ) (n i : ℕ) → i ≡ n → n ≤ length b → paste d at b i ≡ withText d at (take n b)
+pub copy-end : (d : List ℕ) (at : ℕ) (b : List ℕ) (n i : ℕ) → i ≡ n → n ≤ length b → paste d at b i ≡ withUnits d at (take n b)
 copy-end d at b n i e h = rw (e, length-take-le n b h) (append-assoc (take at d) (take n b) (drop (at + n) d))
 
-pub holds-first : (d e o : List ℕ) (n : ℕ) → n ≡ 0 + length e → o ≡ withText d 0 e → Holds d e n o
+pub holds-first : (d e o : List ℕ) (n : ℕ) → n ≡ 0 + length e → o ≡ withUnits d 0 e → Holds d e n o
 holds-first d e o n q h =
     let c : n ≡ length e = omega arith in
     record { counted = c; cells = h ∙ rw (c, add-zero-left (length e)) }
@@ -31,17 +31,17 @@ holds-first d e o n q h =
     add-zero-left : (k : ℕ) → 0 + k ≡ k
     add-zero-left k = omega arith
 
-pub holds-more : (d text e o p : List ℕ) (n m : ℕ) → Holds d text n o → m ≡ n + length e → p ≡ withText o n e → Holds d (text ++ e) m p
-holds-more d text e o p n m h q w =
-    let t : take n o ≡ text = rw (h .cells) (take-at text (drop n d) n (sym (h .counted))) in
+pub holds-more : (d done e o p : List ℕ) (n m : ℕ) → Holds d done n o → m ≡ n + length e → p ≡ withUnits o n e → Holds d (done ++ e) m p
+holds-more d done e o p n m h q w =
+    let t : take n o ≡ done = rw (h .cells) (take-at done (drop n d) n (sym (h .counted))) in
     let r : drop (n + length e) o ≡ drop (n + length e) d =
-    sym (drop-drop (length e) n o) ∙ ap (drop (length e)) (ap (drop n) (h .cells) ∙ drop-at text (drop n d) n (sym (h .counted))) ∙ drop-drop (length e) n d in
+    sym (drop-drop (length e) n o) ∙ ap (drop (length e)) (ap (drop n) (h .cells) ∙ drop-at done (drop n d) n (sym (h .counted))) ∙ drop-drop (length e) n d in
     record {
-      counted = omega (arith, h .counted, length-append text e);
-      cells = w ∙ rw (t, r, q) (sym (append-assoc text e (drop (n + length e) d)));
+      counted = omega (arith, h .counted, length-append done e);
+      cells = w ∙ rw (t, r, q) (sym (append-assoc done e (drop (n + length e) d)));
     }
 
-pub length-with : (d e o : List ℕ) (at : ℕ) → o ≡ withText d at e → at + length e ≤ length d → length o ≡ length d
+pub length-with : (d e o : List ℕ) (at : ℕ) → o ≡ withUnits d at e → at + length e ≤ length d → length o ≡ length d
 length-with d e o at q h =
     ap length q
     ∙ rw (length-append (take at d) (e ++ drop (at + length e) d), length-append e (drop (at + length e) d), length-take-le at d (omega arith), length-drop (at + length e) d)

@@ -1,0 +1,4 @@
+pub mod WholeUnits
+pub mod Lengths
+pub mod Backward
+pub mod Targets

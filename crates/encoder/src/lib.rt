@@ -1,0 +1,33 @@
+// Writes the legal encoding of one value, by the width of the code units, and tells how long it is. These functions ask that the value
+// lies below 80000000 and that the room suffices: the calls of `conversion` ask nothing.
+pub mod bytes;
+pub mod ucs4;
+pub mod utf16;
+
+use tables::ByteForm;
+ghost use mathlib.Core.Path.{_≡_};
+ghost use Prim.Native.Nat.{_<_};
+ghost use lib.ListN.{length};
+ghost use Rattle.forms.specs.Form.{encode};
+ghost use Rattle.encoder.specs.Target.{targetForm};
+
+// The form that a text is converted to.
+pub enum Target {
+    FssUtf,
+    UtfEbcdic,
+    Utf16,
+    Ucs4,
+}
+
+// How many code units the value's legal encoding has: 0 where it has none.
+pub fn encoded_length(target: Target, value: u32) -> usize
+    requires { ⌜ value < 0x80000000 ⌝ }
+    ensures { λ r. ⌜ r ≡ length (encode (targetForm target) value) ⌝ }
+{
+    match target {
+        Target::FssUtf => bytes::encoded_length(ByteForm::FssUtf, value),
+        Target::UtfEbcdic => bytes::encoded_length(ByteForm::UtfEbcdic, value),
+        Target::Utf16 => utf16::encoded_length(value),
+        Target::Ucs4 => 1,
+    }
+}

@@ -1,0 +1,32 @@
+// UCS-4 as the source.
+use encoder::Target;
+use forms::Conversion;
+use forms::Item;
+use forms::Refusal;
+ghost use mathlib.Core.Path.{_≡_};
+ghost use Rattle.forms.specs.Forms.{ucs4};
+ghost use Rattle.forms.specs.Conversion.{outcome, answerOf};
+ghost use Rattle.encoder.specs.Target.{targetForm};
+
+pub fn measure(target: Target, src: &[u32]) -> Conversion
+    ensures { λ r. ⌜ r ≡ answerOf (outcome ucs4 (targetForm target) (now (src .entry))) ⌝ }
+{
+    if 65536 < src.len() {
+        return Conversion::Refused(Refusal::source_too_long());
+    }
+    let mut at: usize = 0;
+    let mut units: usize = 0;
+    while at < src.len() {
+        let item = items::ucs4::item_at(src, at);
+        let Item::Character(value, span) = item else {
+            return Conversion::Refused(item.refusal());
+        };
+        let length = encoder::encoded_length(target, value);
+        if length == 0 {
+            return Conversion::Refused(item.refusal());
+        }
+        units += length;
+        at += span.length;
+    }
+    Conversion::Units(units)
+}
