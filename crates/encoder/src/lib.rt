@@ -9,6 +9,7 @@ ghost use mathlib.Core.Path.{_≡_};
 ghost use Prim.Native.Nat.{_<_};
 ghost use lib.ListN.{length};
 ghost use Rattle.forms.specs.Form.{encode};
+ghost use Rattle.tables.specs.ByteForms.{byteForm};
 ghost use Rattle.encoder.specs.Target.{targetForm};
 
 // The form that a text is converted to.
@@ -17,6 +18,16 @@ pub enum Target {
     UtfEbcdic,
     Utf16,
     Ucs4,
+}
+
+// A byte form as the target.
+pub fn byte_target(form: ByteForm) -> Target
+    ensures { λ r. ⌜ targetForm r ≡ byteForm form ⌝ }
+{
+    match form {
+        ByteForm::FssUtf => Target::FssUtf,
+        ByteForm::UtfEbcdic => Target::UtfEbcdic,
+    }
 }
 
 // How many code units the value's legal encoding has: 0 where it has none.

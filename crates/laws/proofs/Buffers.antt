@@ -23,6 +23,9 @@ copy-length d at b i o e h l = ap length e ∙ length-paste d at b i h l
 pub copy-end : (d : List ℕ) (at : ℕ) (b : List ℕ) (n i : ℕ) → i ≡ n → n ≤ length b → paste d at b i ≡ withUnits d at (take n b)
 copy-end d at b n i e h = rw (e, length-take-le n b h) (append-assoc (take at d) (take n b) (drop (at + n) d))
 
+pub holds-none : (d : List ℕ) → Holds d [] 0 d
+holds-none d = record { counted = refl; cells = refl }
+
 pub holds-first : (d e o : List ℕ) (n : ℕ) → n ≡ 0 + length e → o ≡ withUnits d 0 e → Holds d e n o
 holds-first d e o n q h =
     let c : n ≡ length e = omega arith in

@@ -4,23 +4,20 @@ use mathlib.Core.Path.{_≡_, refl, sym, ap, _∙_, subst}
 use mathlib.Core.Logic.{_≢_}
 use mathlib.Core.List.{List, [], _∷_, _++_, append-assoc, append-nil}
 use native.Mathlib.Omega.{arith}
+use native.Mathlib.Decide.{decLt}
 use borrow.Author.Tests.{le-ltb, lt-ltb}
 use lib.ListN.{length, getD, drop, length-append}
-use Rattle.forms.specs.declared.Fault.the-variants.{SourceTooLong, BufferTooShort}
+use Rattle.forms.specs.declared.Fault.the-variants.{SourceTooLong}
 use Rattle.forms.specs.declared.Item.{Item}
 use Rattle.forms.specs.declared.Item.the-variants.{Character, Mark}
 use Rattle.forms.specs.declared.Refusal.{Refusal}
-use Rattle.forms.specs.declared.Conversion.{Conversion}
-use Rattle.forms.specs.declared.Conversion.the-variants.{Units, Refused}
 use Rattle.forms.specs.Fault.{limit, refusal}
 use Rattle.forms.specs.Form.{Form, Content, character, mark, size, content, span, spanOf, withSpan, firstOf, itemOf, items, encode, asked}
-use Rattle.forms.specs.Buffer.{withUnits, Holds}
-use Rattle.forms.specs.Conversion.{Outcome, converted, refused, encoding, refusalAt, prepend, put, convertItems, outcome, inRoom, answerOf, cellsOf, Converts}
+use Rattle.forms.specs.Conversion.{Outcome, converted, refused, encoding, refusalAt, prepend, put, convertItems, outcome}
 use Rattle.laws.proofs.Sequences.{taken-trailing}
 use Rattle.laws.proofs.FormLaws.{Reads, Laws}
 use Rattle.laws.proofs.Items.{itemsOnward, sequenceAt, items-end, items-step, length-at, within-at}
 use Rattle.laws.proofs.Characters.{content-reads, put-some}
-use Rattle.laws.proofs.Buffers.{holds-more, length-with}
 
 prepend-none : (o : Outcome) → o ≡ prepend [] o
 prepend-none (converted es) = refl
@@ -57,6 +54,14 @@ module _ (F G : Form) (s : List ℕ) where
 
   pub progress-over : limit < length s → outcome F G s ≡ refused (refusal SourceTooLong 0)
   progress-over h = rw (lt-ltb limit (length s) h)
+
+  -- a text that comes to a result is no longer than the limit
+  pub within-limit : (es : List ℕ) → outcome F G s ≡ converted es → length s ≤ limit
+  within-limit es e = go (decLt limit (length s))
+    where
+      go : Dec (limit < length s) → length s ≤ limit
+      go (yes d) = absurd (let q : refused (refusal SourceTooLong 0) ≡ converted es = sym (progress-over d) ∙ e in let z : _≡_ {A = ℕ} 0 1 = cc in omega arith)
+      go (no d) = omega arith
 
   module _ (p : ℕ) (h : p < length s) (i : Item) (e : i ≡ itemOf F p (sequenceAt F s p)) where
     pub item-length : (spanOf i) .length ≡ size (sequenceAt F s p)

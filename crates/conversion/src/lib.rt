@@ -1,0 +1,159 @@
+// Strict conversion between each two of the four forms: public calls, which ask nothing of their caller.
+//
+// `f_to_g` converts a text into a lent buffer: the code units stand at its front and its rest is untouched, or it is refused and the buffer
+// is as it was. `f_to_g_length` is document 01's measure: how many code units the text has in the other form. `specs/Conversion` of
+// `forms` says what each gives.
+mod to_bytes;
+mod to_ucs4;
+mod to_utf16;
+
+use encoder::Target;
+use forms::Conversion;
+use tables::ByteForm;
+ghost use mathlib.Core.Path.{_≡_};
+ghost use Rattle.forms.specs.Forms.{fssUtf, utfEbcdic, utf16, ucs4};
+ghost use Rattle.forms.specs.Conversion.{outcome, answerOf, Converts};
+
+pub fn fss_utf_to_utf_ebcdic(src: &[u8], dst: &mut [u8]) -> Conversion
+    ensures { λ r. ⌜ Converts fssUtf utfEbcdic (now (src .entry)) (now (dst .entry)) r (now (dst .exit)) ⌝ }
+{
+    to_bytes::from_bytes(ByteForm::FssUtf, ByteForm::UtfEbcdic, src, dst)
+}
+
+pub fn fss_utf_to_utf_ebcdic_length(src: &[u8]) -> Conversion
+    ensures { λ r. ⌜ r ≡ answerOf (outcome fssUtf utfEbcdic (now (src .entry))) ⌝ }
+{
+    measure::bytes::measure(ByteForm::FssUtf, Target::UtfEbcdic, src)
+}
+
+pub fn fss_utf_to_utf16(src: &[u8], dst: &mut [u16]) -> Conversion
+    ensures { λ r. ⌜ Converts fssUtf utf16 (now (src .entry)) (now (dst .entry)) r (now (dst .exit)) ⌝ }
+{
+    to_utf16::from_bytes(ByteForm::FssUtf, src, dst)
+}
+
+pub fn fss_utf_to_utf16_length(src: &[u8]) -> Conversion
+    ensures { λ r. ⌜ r ≡ answerOf (outcome fssUtf utf16 (now (src .entry))) ⌝ }
+{
+    measure::bytes::measure(ByteForm::FssUtf, Target::Utf16, src)
+}
+
+pub fn fss_utf_to_ucs4(src: &[u8], dst: &mut [u32]) -> Conversion
+    ensures { λ r. ⌜ Converts fssUtf ucs4 (now (src .entry)) (now (dst .entry)) r (now (dst .exit)) ⌝ }
+{
+    to_ucs4::from_bytes(ByteForm::FssUtf, src, dst)
+}
+
+pub fn fss_utf_to_ucs4_length(src: &[u8]) -> Conversion
+    ensures { λ r. ⌜ r ≡ answerOf (outcome fssUtf ucs4 (now (src .entry))) ⌝ }
+{
+    measure::bytes::measure(ByteForm::FssUtf, Target::Ucs4, src)
+}
+
+pub fn utf_ebcdic_to_fss_utf(src: &[u8], dst: &mut [u8]) -> Conversion
+    ensures { λ r. ⌜ Converts utfEbcdic fssUtf (now (src .entry)) (now (dst .entry)) r (now (dst .exit)) ⌝ }
+{
+    to_bytes::from_bytes(ByteForm::UtfEbcdic, ByteForm::FssUtf, src, dst)
+}
+
+pub fn utf_ebcdic_to_fss_utf_length(src: &[u8]) -> Conversion
+    ensures { λ r. ⌜ r ≡ answerOf (outcome utfEbcdic fssUtf (now (src .entry))) ⌝ }
+{
+    measure::bytes::measure(ByteForm::UtfEbcdic, Target::FssUtf, src)
+}
+
+pub fn utf_ebcdic_to_utf16(src: &[u8], dst: &mut [u16]) -> Conversion
+    ensures { λ r. ⌜ Converts utfEbcdic utf16 (now (src .entry)) (now (dst .entry)) r (now (dst .exit)) ⌝ }
+{
+    to_utf16::from_bytes(ByteForm::UtfEbcdic, src, dst)
+}
+
+pub fn utf_ebcdic_to_utf16_length(src: &[u8]) -> Conversion
+    ensures { λ r. ⌜ r ≡ answerOf (outcome utfEbcdic utf16 (now (src .entry))) ⌝ }
+{
+    measure::bytes::measure(ByteForm::UtfEbcdic, Target::Utf16, src)
+}
+
+pub fn utf_ebcdic_to_ucs4(src: &[u8], dst: &mut [u32]) -> Conversion
+    ensures { λ r. ⌜ Converts utfEbcdic ucs4 (now (src .entry)) (now (dst .entry)) r (now (dst .exit)) ⌝ }
+{
+    to_ucs4::from_bytes(ByteForm::UtfEbcdic, src, dst)
+}
+
+pub fn utf_ebcdic_to_ucs4_length(src: &[u8]) -> Conversion
+    ensures { λ r. ⌜ r ≡ answerOf (outcome utfEbcdic ucs4 (now (src .entry))) ⌝ }
+{
+    measure::bytes::measure(ByteForm::UtfEbcdic, Target::Ucs4, src)
+}
+
+pub fn utf16_to_fss_utf(src: &[u16], dst: &mut [u8]) -> Conversion
+    ensures { λ r. ⌜ Converts utf16 fssUtf (now (src .entry)) (now (dst .entry)) r (now (dst .exit)) ⌝ }
+{
+    to_bytes::from_utf16(ByteForm::FssUtf, src, dst)
+}
+
+pub fn utf16_to_fss_utf_length(src: &[u16]) -> Conversion
+    ensures { λ r. ⌜ r ≡ answerOf (outcome utf16 fssUtf (now (src .entry))) ⌝ }
+{
+    measure::utf16::measure(Target::FssUtf, src)
+}
+
+pub fn utf16_to_utf_ebcdic(src: &[u16], dst: &mut [u8]) -> Conversion
+    ensures { λ r. ⌜ Converts utf16 utfEbcdic (now (src .entry)) (now (dst .entry)) r (now (dst .exit)) ⌝ }
+{
+    to_bytes::from_utf16(ByteForm::UtfEbcdic, src, dst)
+}
+
+pub fn utf16_to_utf_ebcdic_length(src: &[u16]) -> Conversion
+    ensures { λ r. ⌜ r ≡ answerOf (outcome utf16 utfEbcdic (now (src .entry))) ⌝ }
+{
+    measure::utf16::measure(Target::UtfEbcdic, src)
+}
+
+pub fn utf16_to_ucs4(src: &[u16], dst: &mut [u32]) -> Conversion
+    ensures { λ r. ⌜ Converts utf16 ucs4 (now (src .entry)) (now (dst .entry)) r (now (dst .exit)) ⌝ }
+{
+    to_ucs4::from_utf16(src, dst)
+}
+
+pub fn utf16_to_ucs4_length(src: &[u16]) -> Conversion
+    ensures { λ r. ⌜ r ≡ answerOf (outcome utf16 ucs4 (now (src .entry))) ⌝ }
+{
+    measure::utf16::measure(Target::Ucs4, src)
+}
+
+pub fn ucs4_to_fss_utf(src: &[u32], dst: &mut [u8]) -> Conversion
+    ensures { λ r. ⌜ Converts ucs4 fssUtf (now (src .entry)) (now (dst .entry)) r (now (dst .exit)) ⌝ }
+{
+    to_bytes::from_ucs4(ByteForm::FssUtf, src, dst)
+}
+
+pub fn ucs4_to_fss_utf_length(src: &[u32]) -> Conversion
+    ensures { λ r. ⌜ r ≡ answerOf (outcome ucs4 fssUtf (now (src .entry))) ⌝ }
+{
+    measure::ucs4::measure(Target::FssUtf, src)
+}
+
+pub fn ucs4_to_utf_ebcdic(src: &[u32], dst: &mut [u8]) -> Conversion
+    ensures { λ r. ⌜ Converts ucs4 utfEbcdic (now (src .entry)) (now (dst .entry)) r (now (dst .exit)) ⌝ }
+{
+    to_bytes::from_ucs4(ByteForm::UtfEbcdic, src, dst)
+}
+
+pub fn ucs4_to_utf_ebcdic_length(src: &[u32]) -> Conversion
+    ensures { λ r. ⌜ r ≡ answerOf (outcome ucs4 utfEbcdic (now (src .entry))) ⌝ }
+{
+    measure::ucs4::measure(Target::UtfEbcdic, src)
+}
+
+pub fn ucs4_to_utf16(src: &[u32], dst: &mut [u16]) -> Conversion
+    ensures { λ r. ⌜ Converts ucs4 utf16 (now (src .entry)) (now (dst .entry)) r (now (dst .exit)) ⌝ }
+{
+    to_utf16::from_ucs4(src, dst)
+}
+
+pub fn ucs4_to_utf16_length(src: &[u32]) -> Conversion
+    ensures { λ r. ⌜ r ≡ answerOf (outcome ucs4 utf16 (now (src .entry))) ⌝ }
+{
+    measure::ucs4::measure(Target::Utf16, src)
+}
