@@ -1,7 +1,8 @@
 /* Jiskromet: a text converter between FSS-UTF, UTF-EBCDIC, UTF-16 and UCS-4 whose every function is proved.
  *
- * A text is lent as a pointer and a number of code units; with 0 units the pointer may be anything. No call writes to a
- * lent text, keeps a pointer, allocates, or relies on the caller having tested the text. */
+ * A text is lent as a pointer and a number of code units, a result buffer as a pointer and a number of cells; with 0 of
+ * them the pointer may be anything. A result buffer must not overlap the text. No call writes to a lent text, keeps a
+ * pointer, allocates, or relies on the caller having tested the text. */
 #ifndef JISKROMET_H
 #define JISKROMET_H
 
@@ -47,6 +48,65 @@ jk_item jk_fss_utf_item_at(const uint8_t *text, size_t len, size_t offset);
 jk_item jk_utf_ebcdic_item_at(const uint8_t *text, size_t len, size_t offset);
 jk_item jk_utf16_item_at(const uint16_t *text, size_t len, size_t offset);
 jk_item jk_ucs4_item_at(const uint32_t *text, size_t len, size_t offset);
+
+/* The answer of a conversion or of its length. */
+typedef struct jk_conversion {
+    uint32_t fault;  /* enum jk_fault; 0 where there is none */
+    uint64_t offset; /* of a refusal, the offset of the item that the fault concerns, 0 for faults 1 and 7; 0 otherwise */
+    uint64_t units;  /* the code units written or needed; 0 of a refusal */
+} jk_conversion;
+
+/* Strict conversion. jk_F_to_G writes the text in the other form to the front of dst and leaves its rest untouched; jk_F_to_G_length
+ * tells how many code units that takes and gives no fault 7. A refusal (fault 1; else the fault at the lowest offset, 2 to 6 or 8; else 7)
+ * leaves all of dst as it was. A text of n code units that is not refused takes at most the cells noted beside each pair. */
+
+/* FSS-UTF to UTF-EBCDIC: at most 3 * n / 2. */
+jk_conversion jk_fss_utf_to_utf_ebcdic(const uint8_t *src, size_t src_len, uint8_t *dst, size_t dst_len);
+jk_conversion jk_fss_utf_to_utf_ebcdic_length(const uint8_t *src, size_t src_len);
+
+/* FSS-UTF to UTF-16: at most n. */
+jk_conversion jk_fss_utf_to_utf16(const uint8_t *src, size_t src_len, uint16_t *dst, size_t dst_len);
+jk_conversion jk_fss_utf_to_utf16_length(const uint8_t *src, size_t src_len);
+
+/* FSS-UTF to UCS-4: at most n. */
+jk_conversion jk_fss_utf_to_ucs4(const uint8_t *src, size_t src_len, uint32_t *dst, size_t dst_len);
+jk_conversion jk_fss_utf_to_ucs4_length(const uint8_t *src, size_t src_len);
+
+/* UTF-EBCDIC to FSS-UTF: at most 2 * n. */
+jk_conversion jk_utf_ebcdic_to_fss_utf(const uint8_t *src, size_t src_len, uint8_t *dst, size_t dst_len);
+jk_conversion jk_utf_ebcdic_to_fss_utf_length(const uint8_t *src, size_t src_len);
+
+/* UTF-EBCDIC to UTF-16: at most n. */
+jk_conversion jk_utf_ebcdic_to_utf16(const uint8_t *src, size_t src_len, uint16_t *dst, size_t dst_len);
+jk_conversion jk_utf_ebcdic_to_utf16_length(const uint8_t *src, size_t src_len);
+
+/* UTF-EBCDIC to UCS-4: at most n. */
+jk_conversion jk_utf_ebcdic_to_ucs4(const uint8_t *src, size_t src_len, uint32_t *dst, size_t dst_len);
+jk_conversion jk_utf_ebcdic_to_ucs4_length(const uint8_t *src, size_t src_len);
+
+/* UTF-16 to FSS-UTF: at most 3 * n. */
+jk_conversion jk_utf16_to_fss_utf(const uint16_t *src, size_t src_len, uint8_t *dst, size_t dst_len);
+jk_conversion jk_utf16_to_fss_utf_length(const uint16_t *src, size_t src_len);
+
+/* UTF-16 to UTF-EBCDIC: at most 4 * n. */
+jk_conversion jk_utf16_to_utf_ebcdic(const uint16_t *src, size_t src_len, uint8_t *dst, size_t dst_len);
+jk_conversion jk_utf16_to_utf_ebcdic_length(const uint16_t *src, size_t src_len);
+
+/* UTF-16 to UCS-4: at most n. */
+jk_conversion jk_utf16_to_ucs4(const uint16_t *src, size_t src_len, uint32_t *dst, size_t dst_len);
+jk_conversion jk_utf16_to_ucs4_length(const uint16_t *src, size_t src_len);
+
+/* UCS-4 to FSS-UTF: at most 6 * n. */
+jk_conversion jk_ucs4_to_fss_utf(const uint32_t *src, size_t src_len, uint8_t *dst, size_t dst_len);
+jk_conversion jk_ucs4_to_fss_utf_length(const uint32_t *src, size_t src_len);
+
+/* UCS-4 to UTF-EBCDIC: at most 7 * n. */
+jk_conversion jk_ucs4_to_utf_ebcdic(const uint32_t *src, size_t src_len, uint8_t *dst, size_t dst_len);
+jk_conversion jk_ucs4_to_utf_ebcdic_length(const uint32_t *src, size_t src_len);
+
+/* UCS-4 to UTF-16: at most 2 * n. */
+jk_conversion jk_ucs4_to_utf16(const uint32_t *src, size_t src_len, uint16_t *dst, size_t dst_len);
+jk_conversion jk_ucs4_to_utf16_length(const uint32_t *src, size_t src_len);
 
 #ifdef __cplusplus
 }

@@ -51,6 +51,10 @@ abbrev pub inRoom : ℕ → Outcome → Outcome
 inRoom n (converted es) = cond (ltb n (length es)) (refused (refusal BufferTooShort 0)) (converted es)
 inRoom n (refused r) = refused r
 
+-- strict conversion of a text into a buffer of n cells
+abbrev pub strict : Form → Form → List ℕ → ℕ → Outcome
+strict F G s n = inRoom n (outcome F G s)
+
 -- what a call answers
 abbrev pub answerOf : Outcome → Conversion
 answerOf (converted es) = Units (length es)
@@ -63,5 +67,5 @@ cellsOf (refused r) d = d
 
 -- what a converter promises: its answer r, and that the result buffer d became o
 pub record Converts (F G : Form) (s d : List ℕ) (r : Conversion) (o : List ℕ) : Type 0 where
-  pub answer : r ≡ answerOf (inRoom (length d) (outcome F G s))
-  pub cells : o ≡ cellsOf (inRoom (length d) (outcome F G s)) d
+  pub answer : r ≡ answerOf (strict F G s (length d))
+  pub cells : o ≡ cellsOf (strict F G s (length d)) d

@@ -1,12 +1,20 @@
 -- The numbers of an answer as C sees it: fault numbers, places and counts of document 01.
 use Prim.Native.Nat.{ℕ}
+use mathlib.Core.Path.{_≡_}
+use mathlib.Core.List.{List}
+use lib.ListN.{length}
 use Rattle.forms.specs.declared.Item.{Item}
 use Rattle.forms.specs.declared.Item.the-variants.{Character, Mark}
 use Rattle.forms.specs.declared.Refusal.{Refusal}
+use Rattle.forms.specs.declared.Conversion.{Conversion}
+use Rattle.forms.specs.declared.Conversion.the-variants.{Units, Refused as NoUnits}
 use Rattle.forms.specs.Fault.{numberOf}
+use Rattle.forms.specs.Form.{Form}
+use Rattle.forms.specs.Conversion.{strict, answerOf, cellsOf}
 use Rattle.reader.specs.declared.Step.{Step}
 use Rattle.reader.specs.declared.Step.the-variants.{Next, End, Refused}
 use Rattle.jiskromet.specs.declared.JkItem.{JkItem}
+use Rattle.jiskromet.specs.declared.JkConversion.{JkConversion}
 
 abbrev pub jkItem : ℕ → ℕ → ℕ → ℕ → ℕ → JkItem
 jkItem k f v p n = record { kind = k; fault = f; value = v; offset = p; length = n }
@@ -25,3 +33,16 @@ abbrev pub itemAnswer : Step → JkItem
 itemAnswer (Next i c) = shownItem i
 itemAnswer (End c) = jkItem 0 0 0 (c .offset) 0
 itemAnswer (Refused r) = refusedItem r
+
+abbrev pub jkConversion : ℕ → ℕ → ℕ → JkConversion
+jkConversion f p n = record { fault = f; offset = p; units = n }
+
+-- a refusal has its number, its place and zero units
+abbrev pub conversionAnswer : Conversion → JkConversion
+conversionAnswer (Units n) = jkConversion 0 0 n
+conversionAnswer (NoUnits r) = jkConversion (numberOf (r .fault)) (r .offset) 0
+
+-- what a converter promises to C: its answer r, and that the result buffer d became o
+pub record ConvertsInC (F G : Form) (s d : List ℕ) (r : JkConversion) (o : List ℕ) : Type 0 where
+  pub answer : r ≡ conversionAnswer (answerOf (strict F G s (length d)))
+  pub cells : o ≡ cellsOf (strict F G s (length d)) d

@@ -1,6 +1,9 @@
 // What a gateway links: the calls of the library under their C names, as `include/jiskromet.h` declares them.
 //
 // Each answer is a struct of numbers. `specs/Answer` says which number stands for which case.
+pub mod conversions;
+
+use forms::Conversion;
 use forms::Item;
 use forms::Refusal;
 use reader::Cursor;
@@ -8,7 +11,7 @@ use reader::Step;
 ghost use mathlib.Core.Path.{_≡_};
 ghost use Rattle.forms.specs.Forms.{fssUtf, utfEbcdic, utf16, ucs4};
 ghost use Rattle.reader.specs.Step.{cursor, stepAt};
-ghost use Rattle.jiskromet.specs.Answer.{itemAnswer, shownItem, refusedItem};
+ghost use Rattle.jiskromet.specs.Answer.{itemAnswer, shownItem, refusedItem, conversionAnswer};
 
 #[repr(C)]
 pub struct JkItem {
@@ -98,5 +101,36 @@ fn refused_item(refusal: Refusal) -> JkItem
         value: 0,
         offset: refusal.offset as u64,
         length: 0,
+    }
+}
+
+#[repr(C)]
+pub struct JkConversion {
+    pub fault: u32,
+    pub offset: u64,
+    pub units: u64,
+}
+
+fn conversion_answer(conversion: Conversion) -> JkConversion
+    ensures { λ r. ⌜ r ≡ conversionAnswer conversion ⌝ }
+{
+    match conversion {
+        Conversion::Units(units) => JkConversion {
+            fault: 0,
+            offset: 0,
+            units: units as u64,
+        },
+        Conversion::Refused(refusal) => refused_conversion(refusal),
+    }
+}
+
+fn refused_conversion(refusal: Refusal) -> JkConversion
+    ensures { λ r. ⌜ r ≡ conversionAnswer (Conversion.Refused refusal) ⌝ }
+{
+    let fault = refusal.fault;
+    JkConversion {
+        fault: forms::number(fault),
+        offset: refusal.offset as u64,
+        units: 0,
     }
 }

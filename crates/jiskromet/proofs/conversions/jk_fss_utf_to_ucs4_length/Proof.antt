@@ -1,0 +1,17 @@
+use borrow.Author.Needs.{needs}
+use mathlib.Core.Path.{ap, _∙_}
+use Rattle.jiskromet.specs.Answer.{conversionAnswer}
+use Rattle.jiskromet.proofs.conversions.jk_fss_utf_to_ucs4_length.Statement.{statement}
+use Rattle.jiskromet.proofs.conversions.jk_fss_utf_to_ucs4_length.Tie as tie
+
+fss-utf-to-ucs4-length-requires : tie.Need-fss-utf-to-ucs4-length-requires
+fss-utf-to-ucs4-length-requires c κs = search needs
+
+conversion-answer-requires : tie.Need-conversion-answer-requires
+conversion-answer-requires c κs = search needs
+
+returns : tie.Need-returns
+returns c = c .conversion-answer .ensures ∙ ap conversionAnswer (c .before .fss-utf-to-ucs4-length .ensures)
+
+pub jk-fss-utf-to-ucs4-length-spec : {M : Type 1} → statement M
+jk-fss-utf-to-ucs4-length-spec = tie.close (tie.spec fss-utf-to-ucs4-length-requires conversion-answer-requires returns)

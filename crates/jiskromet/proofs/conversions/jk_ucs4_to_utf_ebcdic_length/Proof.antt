@@ -1,0 +1,17 @@
+use borrow.Author.Needs.{needs}
+use mathlib.Core.Path.{ap, _∙_}
+use Rattle.jiskromet.specs.Answer.{conversionAnswer}
+use Rattle.jiskromet.proofs.conversions.jk_ucs4_to_utf_ebcdic_length.Statement.{statement}
+use Rattle.jiskromet.proofs.conversions.jk_ucs4_to_utf_ebcdic_length.Tie as tie
+
+ucs4-to-utf-ebcdic-length-requires : tie.Need-ucs4-to-utf-ebcdic-length-requires
+ucs4-to-utf-ebcdic-length-requires c κs = search needs
+
+conversion-answer-requires : tie.Need-conversion-answer-requires
+conversion-answer-requires c κs = search needs
+
+returns : tie.Need-returns
+returns c = c .conversion-answer .ensures ∙ ap conversionAnswer (c .before .ucs4-to-utf-ebcdic-length .ensures)
+
+pub jk-ucs4-to-utf-ebcdic-length-spec : {M : Type 1} → statement M
+jk-ucs4-to-utf-ebcdic-length-spec = tie.close (tie.spec ucs4-to-utf-ebcdic-length-requires conversion-answer-requires returns)
