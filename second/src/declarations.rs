@@ -59,7 +59,8 @@ fn compare(group: &mut Group, header: &str, library: &str, sources: &str) {
             format!("{name} declares no function")
         });
         for (function, Function { parameters, result }) in &declared.functions {
-            for named in parameters.iter().chain([result]) {
+            let types = parameters.iter().map(|(_, kind)| kind);
+            for named in types.chain([result]) {
                 let known = NUMBERS.contains(&pointee(named))
                     || declared.structs.contains_key(pointee(named));
                 group.check(known, || {
@@ -103,15 +104,16 @@ fn same<T: PartialEq + std::fmt::Debug>(
     }
 }
 
+/// Parameters or fields in order: name and type. Two parameters of one type
+/// are told apart by their names alone.
+type Fields = Vec<(String, String)>;
+
 /// A function's types, spelled as in Rust; a struct is named by its key.
 #[derive(Debug, PartialEq)]
 struct Function {
-    parameters: Vec<String>,
+    parameters: Fields,
     result: String,
 }
-
-/// A struct's fields in order: name and type.
-type Fields = Vec<(String, String)>;
 
 /// What a text declares. Structs are known by `struct_key`.
 #[derive(Default)]
@@ -349,11 +351,14 @@ fn parse_c(text: &str) -> Declarations {
             (None, Some((bracket, parameters))) if word(0) != "typedef" => {
                 let name = bracket - 1;
                 let result = c_type(&tokens[start..name]);
-                let parameters: Option<Vec<String>> = match parameters {
+                let parameters: Option<Fields> = match parameters {
                     [void] if void == "void" => Some(Vec::new()),
                     _ => split(parameters, ",")
                         .into_iter()
-                        .map(|one| Some(c_type(one)?.0))
+                        .map(|one| {
+                            let (kind, name) = c_type(one)?;
+                            Some((name?, kind))
+                        })
                         .collect(),
                 };
                 match (parameters, result) {
@@ -483,6 +488,14 @@ fn plain_type(tokens: &[String]) -> String {
     }
 }
 
+/// The name in C of a slice's length, which is plain for a reader's text.
+fn length_name(slice: &str) -> String {
+    match slice {
+        "text" => "len".to_string(),
+        _ => format!("{slice}_len"),
+    }
+}
+
 /// The parameters and result of a function, from its opening bracket on. A
 /// slice is a pointer and a length in C.
 fn signature(cursor: &mut Cursor) -> Option<Function> {
@@ -490,7 +503,7 @@ fn signature(cursor: &mut Cursor) -> Option<Function> {
     for parameter in split(cursor.bracketed(), ",") {
         let mut parts = Cursor::new(parameter);
         parts.take(&["mut"]);
-        parts.next();
+        let name = parts.next().to_string();
         if parts.next() != ":" {
             return None;
         }
@@ -499,12 +512,13 @@ fn signature(cursor: &mut Cursor) -> Option<Function> {
         } else if parts.take(&["&", "["]) {
             "*const "
         } else {
-            parameters.push(plain_type(&parameter[parts.at..]));
+            parameters.push((name, plain_type(&parameter[parts.at..])));
             continue;
         };
         parts.at -= 1;
-        parameters.push(format!("{pointer}{}", plain_type(parts.bracketed())));
-        parameters.push("usize".to_string());
+        let length = (length_name(&name), "usize".to_string());
+        parameters.push((name, format!("{pointer}{}", plain_type(parts.bracketed()))));
+        parameters.push(length);
     }
     let result = if cursor.take(&["->"]) {
         let start = cursor.at;
@@ -612,6 +626,8 @@ fn parse_rattle(text: &str) -> Declarations {
 
 #[cfg(test)]
 mod tests {
+    use std::{env, process};
+
     use super::*;
 
     const HEADER: &str = r#"
@@ -631,6 +647,8 @@ mod tests {
         jk_item jk_fss_utf_item_at(const uint8_t *text, size_t len, size_t offset);
         jk_conversion jk_utf16_to_ucs4(const uint16_t *src, size_t src_len,
                                        uint32_t *dst, size_t dst_len);
+        jk_conversion jk_utf16_to_ucs4_length(const uint16_t *src, size_t src_len);
+        jk_conversion jk_fss_utf_to_utf_ebcdic(const uint8_t *src, size_t src_len, uint8_t *dst, size_t dst_len);
         static inline size_t jk_next(jk_item item) { return item.length; }
         #ifdef __cplusplus
         }
@@ -650,6 +668,13 @@ mod tests {
             fn jk_fss_utf_item_at(text: *const u8, len: usize, offset: usize) -> JkItem;
             fn jk_utf16_to_ucs4(src: *const u16, src_len: usize, dst: *mut u32, dst_len: usize)
                 -> JkConversion;
+            fn jk_utf16_to_ucs4_length(src: *const u16, src_len: usize) -> JkConversion;
+            fn jk_fss_utf_to_utf_ebcdic(
+                src: *const u8,
+                src_len: usize,
+                dst: *mut u8,
+                dst_len: usize,
+            ) -> JkConversion;
         }
     "#;
 
@@ -672,6 +697,18 @@ mod tests {
         }
         #[no_mangle]
         pub extern "C" fn jk_utf16_to_ucs4(src: &[u16], dst: &mut [u32]) -> JkConversion {
+            convert(src, dst)
+        }
+        #[no_mangle]
+        pub extern "C" fn jk_utf16_to_ucs4_length(src: &[u16]) -> JkConversion
+            ensures { result == told(measured(src@)) }
+        {
+            measure(src)
+        }
+        #[no_mangle]
+        pub extern "C" fn jk_fss_utf_to_utf_ebcdic(src: &[u8], dst: &mut [u8]) -> JkConversion
+            ensures { result == told(converted(src@, old(dst)@)) && dst@ == cells(src@, old(dst)@) }
+        {
             convert(src, dst)
         }
     "#;
@@ -704,13 +741,44 @@ mod tests {
                 "jk_conversion jk_fss_utf_item_at",
             ),
             header("jk_utf16_to_ucs4", "jk_utf16_to_ucs_4"),
+            header(
+                "_length(const uint16_t *src, size_t src_len)",
+                "_length(const uint16_t *src)",
+            ),
+            header(
+                "const uint8_t *src, size_t src_len, uint8_t *dst",
+                "uint8_t *src, size_t src_len, const uint8_t *dst",
+            ),
+            header(
+                "uint8_t *dst, size_t dst_len",
+                "uint8_t *src, size_t src_len",
+            ),
+            header("uint8_t *dst, size_t dst_len", "uint8_t *dst"),
+            header("uint8_t *dst, size_t dst_len", "uint8_t *, size_t"),
+            header(
+                "jk_conversion jk_utf16_to_ucs4_length",
+                "jk_item jk_utf16_to_ucs4_length",
+            ),
+            header(
+                "jk_conversion { uint32_t fault",
+                "jk_conversion { uint64_t fault",
+            ),
             rust("len: usize, offset: usize", "len: usize"),
             rust("kind: u32, pub length: u64", "length: u64, pub kind: u32"),
             rust("*mut u32", "*const u32"),
             rust("*const u16", "*const u8"),
+            rust("dst: *mut u8", "dst: *mut u16"),
+            rust("src: *const u8,", "dst: *const u8,"),
             rust("pub units: u64", "pub count: u64"),
             rattle("&mut [u32]", "&[u32]"),
             rattle("&[u16]", "&[u8]"),
+            rattle("dst: &mut [u8]", "dst: &mut [u16]"),
+            rattle("src: &[u8], dst: &mut [u8]", "dst: &mut [u8], src: &[u8]"),
+            rattle("src: &[u8], dst: &mut [u8]", "dst: &[u8], src: &mut [u8]"),
+            rattle(
+                "pub fault: u32, pub offset: u64",
+                "pub offset: u64, pub fault: u32",
+            ),
             rattle("offset: usize) -> JkItem", "offset: u64) -> JkItem"),
             rattle("pub kind: u32", "pub kind: u8"),
             rattle("pub extern \"C\" fn jk_utf16", "pub fn jk_utf16"),
@@ -724,6 +792,29 @@ mod tests {
         for (number, seen) in changes.iter().enumerate() {
             assert!(!seen.is_empty(), "change {number} went unseen");
         }
+    }
+
+    /// The exports may stand in any number of files, in folders too.
+    #[test]
+    fn every_source_is_read() {
+        let folder = env::temp_dir().join(format!("second-declarations-{}", process::id()));
+        let inner = folder.join("inner");
+        fs::create_dir_all(&inner).expect("a folder for the test");
+        // The structs in one file, each function in one of its own.
+        let mut parts = RATTLE.split("#[no_mangle]");
+        let structs = parts.next().expect("a first part");
+        fs::write(folder.join("structs.rt"), structs).expect("a file for the test");
+        for (number, part) in parts.enumerate() {
+            let place = if number % 2 == 0 { &folder } else { &inner };
+            let text = format!("#[no_mangle]{part}");
+            fs::write(place.join(format!("part{number}.rt")), text).expect("a file for the test");
+        }
+        fs::write(folder.join("notes.txt"), "#[no_mangle] pub fn other() {}")
+            .expect("a file for the test");
+        let sources = read_sources(&folder);
+        fs::remove_dir_all(&folder).expect("the test's folder");
+        let sources = sources.expect("the sources");
+        assert_eq!(failures(HEADER, RUST, &sources), Vec::<String>::new());
     }
 
     #[test]
