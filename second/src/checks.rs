@@ -2,6 +2,7 @@
 
 pub mod acceptance;
 pub mod boundaries;
+pub mod conversion;
 pub mod limits;
 pub mod listing;
 pub mod published;

@@ -3,7 +3,7 @@
 //! `declarations.rs` reads this file and holds its declarations to the header
 //! and to the library's own source.
 
-use crate::reference::{Content, Form, FssUtf, Item, Reading, Ucs4, Utf16, UtfEbcdic};
+use crate::reference::{Content, Form, FssUtf, Item, Reading, Refusal, Ucs4, Utf16, UtfEbcdic};
 
 #[repr(C)]
 #[derive(Clone, Copy, Debug, PartialEq, Eq)]
@@ -15,11 +15,115 @@ pub struct JkItem {
     pub length: u64,
 }
 
+#[repr(C)]
+#[derive(Clone, Copy, Debug, PartialEq, Eq)]
+pub struct JkConversion {
+    pub fault: u32,
+    pub offset: u64,
+    pub units: u64,
+}
+
 extern "C" {
     fn jk_fss_utf_item_at(text: *const u8, len: usize, offset: usize) -> JkItem;
     fn jk_utf_ebcdic_item_at(text: *const u8, len: usize, offset: usize) -> JkItem;
     fn jk_utf16_item_at(text: *const u16, len: usize, offset: usize) -> JkItem;
     fn jk_ucs4_item_at(text: *const u32, len: usize, offset: usize) -> JkItem;
+
+    fn jk_fss_utf_to_utf_ebcdic(
+        src: *const u8,
+        src_len: usize,
+        dst: *mut u8,
+        dst_len: usize,
+    ) -> JkConversion;
+    fn jk_fss_utf_to_utf_ebcdic_length(src: *const u8, src_len: usize) -> JkConversion;
+
+    fn jk_fss_utf_to_utf16(
+        src: *const u8,
+        src_len: usize,
+        dst: *mut u16,
+        dst_len: usize,
+    ) -> JkConversion;
+    fn jk_fss_utf_to_utf16_length(src: *const u8, src_len: usize) -> JkConversion;
+
+    fn jk_fss_utf_to_ucs4(
+        src: *const u8,
+        src_len: usize,
+        dst: *mut u32,
+        dst_len: usize,
+    ) -> JkConversion;
+    fn jk_fss_utf_to_ucs4_length(src: *const u8, src_len: usize) -> JkConversion;
+
+    fn jk_utf_ebcdic_to_fss_utf(
+        src: *const u8,
+        src_len: usize,
+        dst: *mut u8,
+        dst_len: usize,
+    ) -> JkConversion;
+    fn jk_utf_ebcdic_to_fss_utf_length(src: *const u8, src_len: usize) -> JkConversion;
+
+    fn jk_utf_ebcdic_to_utf16(
+        src: *const u8,
+        src_len: usize,
+        dst: *mut u16,
+        dst_len: usize,
+    ) -> JkConversion;
+    fn jk_utf_ebcdic_to_utf16_length(src: *const u8, src_len: usize) -> JkConversion;
+
+    fn jk_utf_ebcdic_to_ucs4(
+        src: *const u8,
+        src_len: usize,
+        dst: *mut u32,
+        dst_len: usize,
+    ) -> JkConversion;
+    fn jk_utf_ebcdic_to_ucs4_length(src: *const u8, src_len: usize) -> JkConversion;
+
+    fn jk_utf16_to_fss_utf(
+        src: *const u16,
+        src_len: usize,
+        dst: *mut u8,
+        dst_len: usize,
+    ) -> JkConversion;
+    fn jk_utf16_to_fss_utf_length(src: *const u16, src_len: usize) -> JkConversion;
+
+    fn jk_utf16_to_utf_ebcdic(
+        src: *const u16,
+        src_len: usize,
+        dst: *mut u8,
+        dst_len: usize,
+    ) -> JkConversion;
+    fn jk_utf16_to_utf_ebcdic_length(src: *const u16, src_len: usize) -> JkConversion;
+
+    fn jk_utf16_to_ucs4(
+        src: *const u16,
+        src_len: usize,
+        dst: *mut u32,
+        dst_len: usize,
+    ) -> JkConversion;
+    fn jk_utf16_to_ucs4_length(src: *const u16, src_len: usize) -> JkConversion;
+
+    fn jk_ucs4_to_fss_utf(
+        src: *const u32,
+        src_len: usize,
+        dst: *mut u8,
+        dst_len: usize,
+    ) -> JkConversion;
+    fn jk_ucs4_to_fss_utf_length(src: *const u32, src_len: usize) -> JkConversion;
+
+    fn jk_ucs4_to_utf_ebcdic(
+        src: *const u32,
+        src_len: usize,
+        dst: *mut u8,
+        dst_len: usize,
+    ) -> JkConversion;
+    fn jk_ucs4_to_utf_ebcdic_length(src: *const u32, src_len: usize) -> JkConversion;
+
+    fn jk_ucs4_to_utf16(
+        src: *const u32,
+        src_len: usize,
+        dst: *mut u16,
+        dst_len: usize,
+    ) -> JkConversion;
+    fn jk_ucs4_to_utf16_length(src: *const u32, src_len: usize) -> JkConversion;
 }
 
 pub const END: u32 = 0;
@@ -69,6 +173,24 @@ impl JkItem {
     }
 }
 
+impl JkConversion {
+    /// The answer that so many units, or a refusal, come back as.
+    pub fn of(units: Result<usize, Refusal>) -> Self {
+        match units {
+            Ok(units) => JkConversion {
+                fault: 0,
+                offset: 0,
+                units: units as u64,
+            },
+            Err(Refusal { fault, offset }) => JkConversion {
+                fault,
+                offset: offset as u64,
+                units: 0,
+            },
+        }
+    }
+}
+
 /// A form whose exports are linked.
 pub trait Linked: Form {
     /// The one-item reader as C calls it.
@@ -81,6 +203,39 @@ pub trait Linked: Form {
     fn item_at(text: &[Self::Unit], offset: usize) -> JkItem {
         // SAFETY: pointer and length are those of a slice.
         unsafe { Self::raw_item_at(text.as_ptr(), text.len(), offset) }
+    }
+}
+
+/// A form whose conversion to the form `G` is linked.
+pub trait LinkedTo<G: Form>: Form {
+    /// The strict conversion as C calls it.
+    ///
+    /// # Safety
+    ///
+    /// `src` points to `src_len` units, or `src_len` is 0. `dst` points to
+    /// `dst_len` cells that no reference borrows, or `dst_len` is 0.
+    unsafe fn raw_convert(
+        src: *const Self::Unit,
+        src_len: usize,
+        dst: *mut G::Unit,
+        dst_len: usize,
+    ) -> JkConversion;
+
+    /// The measure as C calls it.
+    ///
+    /// # Safety
+    ///
+    /// `src` points to `src_len` units, or `src_len` is 0.
+    unsafe fn raw_measure(src: *const Self::Unit, src_len: usize) -> JkConversion;
+
+    fn convert(text: &[Self::Unit], result: &mut [G::Unit]) -> JkConversion {
+        // SAFETY: pointers and lengths are those of slices.
+        unsafe { Self::raw_convert(text.as_ptr(), text.len(), result.as_mut_ptr(), result.len()) }
+    }
+
+    fn measure(text: &[Self::Unit]) -> JkConversion {
+        // SAFETY: pointer and length are those of a slice.
+        unsafe { Self::raw_measure(text.as_ptr(), text.len()) }
     }
 }
 
@@ -98,3 +253,78 @@ link!(FssUtf, jk_fss_utf_item_at);
 link!(UtfEbcdic, jk_utf_ebcdic_item_at);
 link!(Utf16, jk_utf16_item_at);
 link!(Ucs4, jk_ucs4_item_at);
+
+macro_rules! link_pair {
+    ($from:ty, $to:ty, $convert:ident, $measure:ident) => {
+        impl LinkedTo<$to> for $from {
+            unsafe fn raw_convert(
+                src: *const <$from as Form>::Unit,
+                src_len: usize,
+                dst: *mut <$to as Form>::Unit,
+                dst_len: usize,
+            ) -> JkConversion {
+                $convert(src, src_len, dst, dst_len)
+            }
+
+            unsafe fn raw_measure(
+                src: *const <$from as Form>::Unit,
+                src_len: usize,
+            ) -> JkConversion {
+                $measure(src, src_len)
+            }
+        }
+    };
+}
+
+link_pair!(
+    FssUtf,
+    UtfEbcdic,
+    jk_fss_utf_to_utf_ebcdic,
+    jk_fss_utf_to_utf_ebcdic_length
+);
+link_pair!(
+    FssUtf,
+    Utf16,
+    jk_fss_utf_to_utf16,
+    jk_fss_utf_to_utf16_length
+);
+link_pair!(FssUtf, Ucs4, jk_fss_utf_to_ucs4, jk_fss_utf_to_ucs4_length);
+link_pair!(
+    UtfEbcdic,
+    FssUtf,
+    jk_utf_ebcdic_to_fss_utf,
+    jk_utf_ebcdic_to_fss_utf_length
+);
+link_pair!(
+    UtfEbcdic,
+    Utf16,
+    jk_utf_ebcdic_to_utf16,
+    jk_utf_ebcdic_to_utf16_length
+);
+link_pair!(
+    UtfEbcdic,
+    Ucs4,
+    jk_utf_ebcdic_to_ucs4,
+    jk_utf_ebcdic_to_ucs4_length
+);
+link_pair!(
+    Utf16,
+    FssUtf,
+    jk_utf16_to_fss_utf,
+    jk_utf16_to_fss_utf_length
+);
+link_pair!(
+    Utf16,
+    UtfEbcdic,
+    jk_utf16_to_utf_ebcdic,
+    jk_utf16_to_utf_ebcdic_length
+);
+link_pair!(Utf16, Ucs4, jk_utf16_to_ucs4, jk_utf16_to_ucs4_length);
+link_pair!(Ucs4, FssUtf, jk_ucs4_to_fss_utf, jk_ucs4_to_fss_utf_length);
+link_pair!(
+    Ucs4,
+    UtfEbcdic,
+    jk_ucs4_to_utf_ebcdic,
+    jk_ucs4_to_utf_ebcdic_length
+);
+link_pair!(Ucs4, Utf16, jk_ucs4_to_utf16, jk_ucs4_to_utf16_length);

@@ -18,7 +18,9 @@ use std::env;
 use std::path::PathBuf;
 use std::process::ExitCode;
 
-use checks::{acceptance, boundaries, limits, listing, published, random_texts, units, walking};
+use checks::{
+    acceptance, boundaries, conversion, limits, listing, published, random_texts, units, walking,
+};
 use report::Report;
 
 struct Arguments {
@@ -67,6 +69,12 @@ fn main() -> ExitCode {
     report.run("random texts", random_texts::check);
     report.run("limits", limits::check);
     report.run("walking", walking::check);
+    report.run("conversion points", conversion::points::check);
+    report.run("conversion of values", conversion::values::check);
+    report.run("conversion faults", conversion::faults::check);
+    report.run("conversion limits", conversion::limits::check);
+    report.run("conversion room", conversion::room::check);
+    report.run("conversion of random texts", conversion::texts::check);
     if let Some(program) = &arguments.listing {
         report.run("listing program", |group| listing::check(group, program));
     }

@@ -200,3 +200,49 @@ pub fn draw<F: Drawn>(text: &mut Vec<F::Unit>, longest: usize, random: &mut Rand
     }
     text.truncate(longest);
 }
+
+/// Adds characters that both forms hold until the text would outgrow `longest`
+/// units.
+pub fn add_common<F: Drawn, G: Drawn>(
+    text: &mut Vec<F::Unit>,
+    longest: usize,
+    random: &mut Random,
+) {
+    loop {
+        let value = match random.below(2) {
+            0 => F::value(random),
+            _ => G::value(random),
+        };
+        let (Some(legal), Some(_)) = (F::encode(value), G::encode(value)) else {
+            continue;
+        };
+        if text.len() + legal.len() > longest {
+            return;
+        }
+        text.extend_from_slice(&legal);
+    }
+}
+
+/// `draw` for a conversion: half of the texts have characters that both forms
+/// hold, with or without one fault among them.
+pub fn draw_for<F: Drawn, G: Drawn>(text: &mut Vec<F::Unit>, longest: usize, random: &mut Random) {
+    let way = random.below(8);
+    if way < 4 {
+        return draw::<F>(text, longest, random);
+    }
+    text.clear();
+    let longest = random.below(longest + 1);
+    add_common::<F, G>(text, longest, random);
+    match way {
+        4 => damage::<F>(text, random),
+        5 => {
+            // A value that the target may not hold, between two texts.
+            let value = F::value(random);
+            let legal = F::encode(value).expect("a drawn value has an encoding");
+            text.extend_from_slice(&legal);
+            let longest = text.len() + random.below(8);
+            add_common::<F, G>(text, longest, random);
+        }
+        _ => {}
+    }
+}

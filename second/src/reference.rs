@@ -3,8 +3,10 @@
 //! Plainness comes before speed here: every function follows the words of a
 //! rule, so that it can be held against the paper line by line.
 
+mod conversion;
 mod exchange;
 
+pub use conversion::{convert, most_units, written, Converted, Refusal};
 pub use exchange::{I8_TO_UTF_EBCDIC, UTF_EBCDIC_TO_I8};
 
 use std::fmt::Debug;

@@ -2,7 +2,7 @@
 
 use std::fmt::Display;
 
-use crate::library::{JkItem, Linked, CHARACTER, END, MARK, REFUSAL};
+use crate::library::{JkConversion, JkItem, Linked, CHARACTER, END, MARK, REFUSAL};
 use crate::reference::{self, Form};
 
 /// How many failures of a group are printed in full.
@@ -155,4 +155,14 @@ pub fn told(item: JkItem) -> String {
         other => format!("kind {other}"),
     };
     format!("{kind} (fault {fault}, value {value:X}, offset {offset}, length {length})")
+}
+
+/// A conversion's answer in words, with every field.
+pub fn told_conversion(conversion: JkConversion) -> String {
+    let JkConversion {
+        fault,
+        offset,
+        units,
+    } = conversion;
+    format!("fault {fault}, offset {offset}, {units} units")
 }

@@ -16,7 +16,7 @@ pub fn check(group: &mut Group) {
 }
 
 /// Each bound of any form's lengths, with the values next to it.
-fn boundary_values() -> Vec<u32> {
+pub fn boundary_values() -> Vec<u32> {
     let rows = FSS_UTF.rows.iter().chain(I8.rows);
     let mut bounds: Vec<u32> = rows.flat_map(|row| [row.lowest, row.highest]).collect();
     bounds.extend([

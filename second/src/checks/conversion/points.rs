@@ -1,0 +1,318 @@
+//! What document 01 says of conversion, point by point.
+
+use super::{each_pair, three_ways, ToOthers};
+use crate::checks::{character, each_form, from_i8, mark, Told};
+use crate::library::LinkedTo;
+use crate::random::Drawn;
+use crate::reference::{Converted, Form, FssUtf, Refusal, Ucs4, Utf16, UtfEbcdic};
+use crate::report::Group;
+
+/// A value in UCS-4, FSS-UTF, I8 and UTF-16, which has none for some.
+type Spelled = (
+    &'static str,
+    &'static str,
+    &'static str,
+    Option<&'static str>,
+);
+
+/// The acceptance points, the lowest and highest value of each length in each
+/// form, and the values beside the surrogates.
+const SPELLED: [Spelled; 35] = [
+    ("0", "00", "00", Some("0000")),
+    ("41", "41", "41", Some("0041")),
+    ("7F", "7F", "7F", Some("007F")),
+    ("80", "C2 80", "80", Some("0080")),
+    ("9F", "C2 9F", "9F", Some("009F")),
+    ("A0", "C2 A0", "C5 A0", Some("00A0")),
+    ("A9", "C2 A9", "C5 A9", Some("00A9")),
+    ("3FF", "CF BF", "DF BF", Some("03FF")),
+    ("400", "D0 80", "E1 A0 A0", Some("0400")),
+    ("7FF", "DF BF", "E1 BF BF", Some("07FF")),
+    ("800", "E0 A0 80", "E2 A0 A0", Some("0800")),
+    ("2260", "E2 89 A0", "E8 B3 A0", Some("2260")),
+    ("3FFF", "E3 BF BF", "EF BF BF", Some("3FFF")),
+    ("4000", "E4 80 80", "F0 B0 A0 A0", Some("4000")),
+    ("D7FF", "ED 9F BF", "F1 B5 BF BF", Some("D7FF")),
+    ("D800", "ED A0 80", "F1 B6 A0 A0", None),
+    ("DBFF", "ED AF BF", "F1 B6 BF BF", None),
+    ("DC00", "ED B0 80", "F1 B7 A0 A0", None),
+    ("DFFF", "ED BF BF", "F1 B7 BF BF", None),
+    ("E000", "EE 80 80", "F1 B8 A0 A0", Some("E000")),
+    ("FEFF", "EF BB BF", "F1 BF B7 BF", Some("FEFF")),
+    ("FFFE", "EF BF BE", "F1 BF BF BE", Some("FFFE")),
+    ("FFFF", "EF BF BF", "F1 BF BF BF", Some("FFFF")),
+    ("10000", "F0 90 80 80", "F2 A0 A0 A0", Some("D800 DC00")),
+    ("3FFFF", "F0 BF BF BF", "F7 BF BF BF", Some("D8BF DFFF")),
+    ("40000", "F1 80 80 80", "F8 A8 A0 A0 A0", Some("D8C0 DC00")),
+    ("10FFFF", "F4 8F BF BF", "F9 A1 BF BF BF", Some("DBFF DFFF")),
+    ("110000", "F4 90 80 80", "F9 A2 A0 A0 A0", None),
+    ("1FFFFF", "F7 BF BF BF", "F9 BF BF BF BF", None),
+    ("200000", "F8 88 80 80 80", "FA A0 A0 A0 A0", None),
+    ("3FFFFF", "F8 8F BF BF BF", "FB BF BF BF BF", None),
+    ("400000", "F8 90 80 80 80", "FC A4 A0 A0 A0 A0", None),
+    ("3FFFFFF", "FB BF BF BF BF", "FD BF BF BF BF BF", None),
+    ("4000000", "FC 84 80 80 80 80", "FE A2 A0 A0 A0 A0 A0", None),
+    (
+        "7FFFFFFF",
+        "FD BF BF BF BF BF",
+        "FF BF BF BF BF BF BF",
+        None,
+    ),
+];
+
+pub fn check(group: &mut Group) {
+    each_pair!(spelled(group));
+    each_pair!(spelled_together(group));
+    starred(group);
+    refused(group);
+    surrogates(group);
+    each_form!(empty(group));
+}
+
+fn numbers(hex: &str) -> Vec<u32> {
+    hex.split(' ')
+        .map(|number| u32::from_str_radix(number, 16).expect("a number in hex"))
+        .collect()
+}
+
+/// The units that a row of the table has in a form.
+fn units<F: Form>((ucs_4, fss_utf, i8_bytes, utf_16): Spelled) -> Option<Vec<F::Unit>> {
+    let numbers = match F::NAME {
+        FssUtf::NAME => numbers(fss_utf),
+        UtfEbcdic::NAME => from_i8(&numbers(i8_bytes)),
+        Utf16::NAME => numbers(utf_16?),
+        _ => numbers(ucs_4),
+    };
+    Some(numbers.into_iter().map(F::unit).collect())
+}
+
+const REFUSED_AT_0: Refusal = Refusal {
+    fault: 6,
+    offset: 0,
+};
+
+/// Each row of the table, from form to form; UTF-16 has no unit for some,
+/// which is fault 6 at 0.
+fn spelled<F: LinkedTo<G> + Drawn, G: LinkedTo<F>>(group: &mut Group) {
+    for row in SPELLED {
+        if let Some(text) = units::<F>(row) {
+            let expected: Converted<G> = units::<G>(row).ok_or(REFUSED_AT_0);
+            three_ways::<F, G>(group, "both sides of limits", &text, &expected);
+        }
+    }
+}
+
+/// The rows one behind the other: first those that both forms have, then all
+/// that the source has.
+fn spelled_together<F: LinkedTo<G> + Drawn, G: LinkedTo<F>>(group: &mut Group) {
+    let source = "both sides of limits, one behind the other";
+    let mut text = Vec::new();
+    let mut result = Vec::new();
+    for row in SPELLED {
+        if let (Some(from), Some(to)) = (units::<F>(row), units::<G>(row)) {
+            text.extend(from);
+            result.extend(to);
+        }
+    }
+    three_ways::<F, G>(group, source, &text, &Ok(result));
+
+    let mut text = Vec::new();
+    let mut expected: Converted<G> = Ok(Vec::new());
+    for row in SPELLED {
+        let Some(from) = units::<F>(row) else {
+            continue;
+        };
+        match (&mut expected, units::<G>(row)) {
+            (Ok(result), Some(to)) => result.extend(to),
+            (Ok(_), None) => {
+                expected = Err(Refusal {
+                    fault: 6,
+                    offset: text.len(),
+                });
+            }
+            (Err(_), _) => {}
+        }
+        text.extend(from);
+    }
+    three_ways::<F, G>(group, source, &text, &expected);
+}
+
+/// A text's conversion to one other form, both as a paper writes them.
+fn gives<F: LinkedTo<G> + Drawn, G: LinkedTo<F>>(
+    group: &mut Group,
+    source: &str,
+    text: &[u32],
+    expected: Result<&[u32], (u32, usize)>,
+) {
+    let text: Vec<F::Unit> = text.iter().map(|&unit| F::unit(unit)).collect();
+    let expected: Converted<G> = match expected {
+        Ok(result) => Ok(result.iter().map(|&unit| G::unit(unit)).collect()),
+        Err((fault, offset)) => Err(Refusal { fault, offset }),
+    };
+    three_ways::<F, G>(group, source, &text, &expected);
+}
+
+/// The points marked with a star that are characters, to each other form.
+fn starred(group: &mut Group) {
+    let source = "acceptance point";
+
+    let bytes = [0xC2, 0xA9];
+    gives::<FssUtf, UtfEbcdic>(group, source, &bytes, Ok(&[0x47, 0x9F]));
+    gives::<FssUtf, Utf16>(group, source, &bytes, Ok(&[0xA9]));
+    gives::<FssUtf, Ucs4>(group, source, &bytes, Ok(&[0xA9]));
+
+    let bytes = [0xE2, 0x89, 0xA0];
+    gives::<FssUtf, UtfEbcdic>(group, source, &bytes, Ok(&[0x8B, 0xCE, 0x80]));
+    gives::<FssUtf, Utf16>(group, source, &bytes, Ok(&[0x2260]));
+    gives::<FssUtf, Ucs4>(group, source, &bytes, Ok(&[0x2260]));
+
+    let highest = [0xFD, 0xBF, 0xBF, 0xBF, 0xBF, 0xBF];
+    let exchanged = [0xE1, 0xFE, 0xFE, 0xFE, 0xFE, 0xFE, 0xFE];
+    gives::<FssUtf, UtfEbcdic>(group, source, &highest, Ok(&exchanged));
+    gives::<FssUtf, Utf16>(group, source, &highest, Err((6, 0)));
+    gives::<FssUtf, Ucs4>(group, source, &highest, Ok(&[0x7FFF_FFFF]));
+    gives::<UtfEbcdic, FssUtf>(group, source, &exchanged, Ok(&highest));
+    gives::<UtfEbcdic, Utf16>(group, source, &exchanged, Err((6, 0)));
+    gives::<UtfEbcdic, Ucs4>(group, source, &exchanged, Ok(&[0x7FFF_FFFF]));
+    gives::<Ucs4, FssUtf>(group, source, &[0x7FFF_FFFF], Ok(&highest));
+    gives::<Ucs4, UtfEbcdic>(group, source, &[0x7FFF_FFFF], Ok(&exchanged));
+    gives::<Ucs4, Utf16>(group, source, &[0x7FFF_FFFF], Err((6, 0)));
+
+    // "ED A0 80 is D800; to UTF-16, fault 6 at 0."
+    let bytes = [0xED, 0xA0, 0x80];
+    gives::<FssUtf, Utf16>(group, source, &bytes, Err((6, 0)));
+    gives::<FssUtf, Ucs4>(group, source, &bytes, Ok(&[0xD800]));
+    let exchanged = [0xB3, 0xDD, 0x80, 0x80];
+    gives::<FssUtf, UtfEbcdic>(group, source, &bytes, Ok(&exchanged));
+
+    let utf_ebcdic: [(&[u32], &[u32], u32); 4] = [
+        (&[0x47, 0x80], &[0xC2, 0xA0], 0xA0),
+        (&[0x9A, 0x80, 0x80], &[0xD0, 0x80], 0x400),
+        (&[0xB2, 0xBF, 0x80, 0x80], &[0xE4, 0x80, 0x80], 0x4000),
+        (&[0xC1], &[0x41], 0x41),
+    ];
+    for (bytes, fss_utf, value) in utf_ebcdic {
+        gives::<UtfEbcdic, FssUtf>(group, source, bytes, Ok(fss_utf));
+        gives::<UtfEbcdic, Utf16>(group, source, bytes, Ok(&[value]));
+        gives::<UtfEbcdic, Ucs4>(group, source, bytes, Ok(&[value]));
+    }
+
+    let units = [0xD800, 0xDC00];
+    gives::<Utf16, FssUtf>(group, source, &units, Ok(&[0xF0, 0x90, 0x80, 0x80]));
+    gives::<Utf16, UtfEbcdic>(group, source, &units, Ok(&[0xB4, 0x80, 0x80, 0x80]));
+    gives::<Utf16, Ucs4>(group, source, &units, Ok(&[0x1_0000]));
+}
+
+/// The texts of document 01 that are refused whatever the target, with the
+/// mark's place.
+fn refused(group: &mut Group) {
+    let mut refused = |source: &str, texts: &[(&[u32], u32, usize)]| {
+        for &(text, fault, offset) in texts {
+            gives::<FssUtf, UtfEbcdic>(group, source, text, Err((fault, offset)));
+            gives::<FssUtf, Utf16>(group, source, text, Err((fault, offset)));
+            gives::<FssUtf, Ucs4>(group, source, text, Err((fault, offset)));
+        }
+    };
+    refused(
+        "acceptance point",
+        &[
+            (&[0xC0, 0x80], 5, 0),
+            (&[0xFE], 4, 0),
+            (&[0xE2, 0x89, 0x41], 2, 0),
+        ],
+    );
+    refused(
+        "the listing program's example",
+        &[(&[0x41, 0xC2, 0xA9, 0x80, 0xE2, 0x89, 0x0A], 3, 3)],
+    );
+    refused(
+        "error of other converters",
+        &[
+            (&[0xE2, 0x89, 0xC2, 0xA9], 2, 0),
+            (&[0x41, 0xE2, 0x89, 0xC2, 0xA9], 2, 1),
+            (&[0xC2, 0xE2, 0x89, 0xA0], 2, 0),
+        ],
+    );
+
+    for low in [0xDC00, 0xDFFF] {
+        gives::<Utf16, FssUtf>(group, "acceptance point", &[low], Err((3, 0)));
+        gives::<Utf16, UtfEbcdic>(group, "acceptance point", &[low], Err((3, 0)));
+        gives::<Utf16, Ucs4>(group, "acceptance point", &[low], Err((3, 0)));
+    }
+    for unit in [0x8000_0000, 0xFFFF_FFFF] {
+        gives::<Ucs4, FssUtf>(group, "both sides of limits", &[unit], Err((4, 0)));
+        gives::<Ucs4, UtfEbcdic>(group, "both sides of limits", &[unit], Err((4, 0)));
+        gives::<Ucs4, Utf16>(group, "both sides of limits", &[unit], Err((4, 0)));
+    }
+    // "I8 lead E0 with two trailing bytes is taken: it's always too long."
+    for second in 0xA0..=0xBF {
+        for third in 0xA0..=0xBF {
+            let source = "error of other converters";
+            let bytes = from_i8(&[0xE0, second, third]);
+            gives::<UtfEbcdic, FssUtf>(group, source, &bytes, Err((5, 0)));
+            gives::<UtfEbcdic, Utf16>(group, source, &bytes, Err((5, 0)));
+            gives::<UtfEbcdic, Ucs4>(group, source, &bytes, Err((5, 0)));
+        }
+    }
+}
+
+/// "Two three-byte surrogate values are passed to UTF-16 as a pair": they are
+/// fault 6, in whichever order, and stay two values in the other forms.
+fn surrogates(group: &mut Group) {
+    let source = "error of other converters";
+    let bytes = [0xED, 0xA0, 0x80, 0xED, 0xB0, 0x80];
+    let exchanged = from_i8(&[0xF1, 0xB6, 0xA0, 0xA0, 0xF1, 0xB7, 0xA0, 0xA0]);
+    let values = [0xD800, 0xDC00];
+    gives::<FssUtf, Utf16>(group, source, &bytes, Err((6, 0)));
+    gives::<FssUtf, UtfEbcdic>(group, source, &bytes, Ok(&exchanged));
+    gives::<FssUtf, Ucs4>(group, source, &bytes, Ok(&values));
+    gives::<UtfEbcdic, Utf16>(group, source, &exchanged, Err((6, 0)));
+    gives::<UtfEbcdic, FssUtf>(group, source, &exchanged, Ok(&bytes));
+    gives::<UtfEbcdic, Ucs4>(group, source, &exchanged, Ok(&values));
+    gives::<Ucs4, Utf16>(group, source, &values, Err((6, 0)));
+    gives::<Ucs4, FssUtf>(group, source, &values, Ok(&bytes));
+    gives::<Ucs4, UtfEbcdic>(group, source, &values, Ok(&exchanged));
+
+    let surrogates = [
+        0xD800, 0xD801, 0xDBFE, 0xDBFF, 0xDC00, 0xDC01, 0xDFFE, 0xDFFF,
+    ];
+    for first in surrogates {
+        for second in surrogates {
+            each_way::<FssUtf>(group, source, &[first, second]);
+            each_way::<UtfEbcdic>(group, source, &[first, second]);
+            each_way::<Ucs4>(group, source, &[first, second]);
+            each_way::<FssUtf>(group, source, &[0x41, first, second, 0x41]);
+            each_way::<UtfEbcdic>(group, source, &[0xA9, first, second, 0xA9]);
+            each_way::<Ucs4>(group, source, &[0x1_0000, first, second, 0x1_0000]);
+        }
+    }
+}
+
+/// Characters written in one form, to the three others.
+fn each_way<F: ToOthers>(group: &mut Group, source: &str, values: &[u32]) {
+    let mut text = Vec::new();
+    let mut told: Vec<Told> = Vec::new();
+    for &value in values {
+        match F::encode(value) {
+            Some(legal) => {
+                text.extend_from_slice(&legal);
+                told.push(character(value, legal.len()));
+            }
+            None => group.check(false, || {
+                format!("{source}: no encoding of {value:X} in {}", F::NAME)
+            }),
+        }
+    }
+    F::to_others(group, &source, &text, &told);
+    // The same, cut within its last character.
+    if let Some(&(_, length)) = told.last().filter(|(_, length)| *length > 1) {
+        let last = told.len() - 1;
+        told[last] = mark(2, length - 1);
+        F::to_others(group, &source, &text[..text.len() - 1], &told);
+    }
+}
+
+/// "The empty text converts to the empty text."
+fn empty<F: ToOthers>(group: &mut Group) {
+    F::to_others(group, &"the empty text", &[], &[]);
+}
