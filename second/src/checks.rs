@@ -12,7 +12,9 @@ pub mod walking;
 
 use std::fmt::Display;
 
-use crate::library::{JkItem, Linked};
+use conversion::ToOthers;
+
+use crate::library::JkItem;
 use crate::reference::{self, Content, Item, Reading};
 use crate::report::{hex, Group};
 
@@ -38,9 +40,10 @@ pub fn mark(fault: u32, length: usize) -> Told {
     (Content::Mark(fault), length)
 }
 
-/// Holds a text's items as a paper tells them to the reference's items, and
-/// to the library's answers from the first item on to the end.
-pub fn three_ways<F: Linked>(
+/// Holds a text's items as a paper tells them to the reference's items, to
+/// the library's answers from the first item on to the end, and to the
+/// conversions of the text to the three other forms.
+pub fn three_ways<F: ToOthers>(
     group: &mut Group,
     source: impl Display,
     units: &[u32],
@@ -72,11 +75,12 @@ pub fn three_ways<F: Linked>(
     }
     let end = JkItem::of(Reading::End, text.len());
     group.answer::<F>(&text, text.len(), end, &source);
+    F::to_others(group, &source, &text, told);
 }
 
 /// `three_ways` for a text that is one character, together with the
 /// reference's encoding of its value.
-pub fn one_character<F: Linked>(
+pub fn one_character<F: ToOthers>(
     group: &mut Group,
     source: impl Display,
     value: u32,

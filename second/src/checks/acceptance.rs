@@ -1,5 +1,7 @@
-//! What document 01 says of reading, point by point.
+//! What document 01 says of reading, point by point; each text is converted to
+//! the other forms as well.
 
+use super::conversion::ToOthers;
 use super::{character, each_form, from_i8, mark, one_character, three_ways};
 use crate::library::{JkItem, Linked};
 use crate::reference::{
@@ -233,7 +235,7 @@ fn items(group: &mut Group) {
 }
 
 /// FEFF, FFFE and FFFF are carried; so are D800 to DFFF outside UTF-16.
-fn carried<F: Linked>(group: &mut Group) {
+fn carried<F: ToOthers>(group: &mut Group) {
     let mut values = vec![0xFEFF, 0xFFFE, 0xFFFF];
     values.extend(0xD800..=0xDFFF);
     for value in values {
@@ -323,7 +325,7 @@ fn faults_that_cannot_be(group: &mut Group) {
 }
 
 /// The empty text has no items.
-fn empty<F: Linked>(group: &mut Group) {
+fn empty<F: ToOthers>(group: &mut Group) {
     three_ways::<F>(group, "the empty text", &[], &[]);
     let refusal = Reading::Refusal {
         fault: 9,

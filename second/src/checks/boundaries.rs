@@ -1,6 +1,7 @@
 //! The values at the bounds of each length, whole, cut short, overlong, and
 //! between neighbours.
 
+use super::conversion::ToOthers;
 use super::{each_form, one_character};
 use crate::library::{JkItem, Linked};
 use crate::reference::{
@@ -60,7 +61,7 @@ fn neighbours<F: Linked>() -> Vec<F::Unit> {
     numbers.into_iter().map(F::unit).collect()
 }
 
-fn whole_and_cut<F: Linked>(group: &mut Group) {
+fn whole_and_cut<F: ToOthers>(group: &mut Group) {
     for value in boundary_values() {
         let Some(legal) = F::encode(value) else {
             continue;

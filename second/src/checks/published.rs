@@ -1,9 +1,11 @@
-//! Every example and table of the source documents 000 to 004.
+//! Every example and table of the source documents 000 to 004, read and
+//! converted to the other forms.
 //!
 //! Where a paper has a misprint, document 01 or the bit layout decides; the
 //! place is marked "Misprint" here.
 
 use super::acceptance::flag;
+use super::conversion::ToOthers;
 use super::{character, from_i8, mark, one_character, three_ways};
 use crate::library::{Linked, CHARACTER};
 use crate::random::{Drawn, Random};
@@ -634,7 +636,7 @@ fn report_table_4(group: &mut Group) {
 }
 
 /// A value is read back from its encoding of this length.
-fn reads_back<F: Linked>(group: &mut Group, source: &str, value: u32, length: usize) {
+fn reads_back<F: ToOthers>(group: &mut Group, source: &str, value: u32, length: usize) {
     let bytes: Vec<u32> = match F::encode(value) {
         Some(legal) => legal.iter().map(|&unit| unit.into()).collect(),
         None => Vec::new(),
