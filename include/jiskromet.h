@@ -52,13 +52,14 @@ jk_item jk_ucs4_item_at(const uint32_t *text, size_t len, size_t offset);
 /* The answer of a conversion or of its length. */
 typedef struct jk_conversion {
     uint32_t fault;  /* enum jk_fault; 0 where there is none */
-    uint64_t offset; /* of a refusal, the offset of the item that the fault concerns, 0 for faults 1 and 7; 0 otherwise */
+    uint64_t offset; /* of a refusal, the offset of the item at fault (0 for faults 1 and 7); 0 otherwise */
     uint64_t units;  /* the code units written or needed; 0 of a refusal */
 } jk_conversion;
 
-/* Strict conversion. jk_F_to_G writes the text in the other form to the front of dst and leaves its rest untouched; jk_F_to_G_length
- * tells how many code units that takes and gives no fault 7. A refusal (fault 1; else the fault at the lowest offset, 2 to 6 or 8; else 7)
- * leaves all of dst as it was. A text of n code units that is not refused takes at most the cells noted beside each pair. */
+/* Strict conversion. jk_F_to_G writes the text in the other form to the front of dst and leaves its rest untouched;
+ * jk_F_to_G_length tells how many code units that takes, and gives no fault 7. A refusal (1; else the fault at the
+ * lowest offset, 2 to 6 or 8; else 7) leaves all of dst as it was. A text of n code units that is not refused takes at
+ * most the cells noted beside each pair. */
 
 /* FSS-UTF to UTF-EBCDIC: at most 3 * n / 2. */
 jk_conversion jk_fss_utf_to_utf_ebcdic(const uint8_t *src, size_t src_len, uint8_t *dst, size_t dst_len);

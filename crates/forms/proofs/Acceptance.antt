@@ -9,7 +9,7 @@ use Rattle.forms.specs.declared.Item.the-variants.{Character, Mark}
 use Rattle.forms.specs.Fault.{refusal}
 use Rattle.forms.specs.Form.{Form, span, items}
 use Rattle.forms.specs.Forms.{fssUtf, utfEbcdic, utf16, ucs4}
-use Rattle.forms.specs.Conversion.{Outcome, refused, outcome, inRoom}
+use Rattle.forms.specs.Conversion.{Outcome, refused, strict}
 
 -- a text and what is due: its items, or what comes of converting it into a buffer of so many cells
 pub data Point : Type 0 where
@@ -22,7 +22,7 @@ pub data Result : Type 0 where
 
 abbrev pub actual : Point → Result
 actual (reads F s is) = read (items F s)
-actual (converts F G s n o) = converted-to (inRoom n (outcome F G s))
+actual (converts F G s n o) = converted-to (strict F G s n)
 
 abbrev pub expected : Point → Result
 expected (reads F s is) = read is

@@ -19,7 +19,8 @@ use Rattle.forms.specs.Layout.{formOf}
 use Rattle.forms.specs.Exchange.{ebcdicOf}
 use Rattle.forms.specs.Forms.{byteLayout, fssUtf, i8, utfEbcdic, utf16, ucs4}
 use Rattle.forms.specs.Flags.{flagOf}
-use Rattle.forms.specs.Conversion.{refused, convertItems, outcome, inRoom, answerOf, cellsOf}
+use Rattle.forms.specs.Buffer.{withUnits, Holds}
+use Rattle.forms.specs.Conversion.{refused, refusalAt, convertItems, outcome, strict, answerOf, cellsOf, Converts}
 
 pub data Example : Type 0 where
   -- a value and its legal encoding, which is read as the value
@@ -41,7 +42,7 @@ abbrev pub actual : Example → Result
 actual (encodes F v e) = encoded (encode F v) (items F e)
 actual (excludes F v f) = excluded (encode F v) (F .excluded v)
 actual (reads F s is) = read (items F s)
-actual (converts F G s d a t) = converted (answerOf (inRoom (length d) (outcome F G s))) (cellsOf (inRoom (length d) (outcome F G s)) d)
+actual (converts F G s d a t) = converted (answerOf (strict F G s (length d))) (cellsOf (strict F G s (length d)) d)
 
 abbrev pub expected : Example → Result
 expected (encodes F v e) = encoded e (Character v (span 0 (length e)) ∷ [])
@@ -136,6 +137,20 @@ conversions =
 
 pub conversions-hold : map actual conversions ≡ map expected conversions
 conversions-hold = refl
+
+-- a converter's promise, of an answer and of a buffer; the place of a character that the target cannot hold
+pub promise : Converts fssUtf utf16 (0x41 ∷ []) (7 ∷ 8 ∷ []) (Units 1) (0x41 ∷ 8 ∷ [])
+promise = record { answer = refl; cells = refl }
+
+pub unheld-place : refusalAt (Character 0xD800 (span 5 3)) ≡ refusal Unrepresentable 5
+unheld-place = refl
+
+-- units put into a buffer, and a buffer that holds some at its front
+pub put-in : withUnits (1 ∷ 2 ∷ 3 ∷ 4 ∷ []) 1 (7 ∷ 8 ∷ []) ≡ 1 ∷ 7 ∷ 8 ∷ 4 ∷ []
+put-in = refl
+
+pub held : Holds (1 ∷ 2 ∷ 3 ∷ []) (7 ∷ []) 1 (7 ∷ 2 ∷ 3 ∷ [])
+held = record { counted = refl; cells = refl }
 
 -- "A source of 65,536 units is taken, 65,537 gives 1", before the fault of any unit
 pub at-the-limit : (F G : Form) (s : List ℕ) → length s ≤ 65536 → outcome F G s ≡ convertItems G (items F s)
