@@ -20,15 +20,8 @@ use Rattle.forms.specs.Buffer.{withUnits, Holds}
 use Rattle.forms.specs.Conversion.{Outcome, converted, refused, outcome, inRoom, answerOf, cellsOf, Converts}
 use Rattle.laws.proofs.Items.{sequenceAt}
 use Rattle.laws.proofs.Buffers.{holds-none, holds-more, length-with}
+use Rattle.laws.proofs.Answers.{answer-units, answer-refused}
 use Rattle.laws.proofs.Progress.{Progress, progress-begin, progress-end, within-limit, item-length, item-within, progress-more, progress-next}
-
-answer-refused : (o : Outcome) (r : Conversion) (q : Refusal) → r ≡ answerOf o → r ≡ Refused q → o ≡ refused q
-answer-refused (converted es) r q a e = absurd (let z : _≡_ {A = ℕ} 0 1 = cc in omega arith)
-answer-refused (refused p) r q a e = let z : p ≡ q = cc in ap refused z
-
-answer-units : (o : Outcome) (r : Conversion) (n : ℕ) → r ≡ answerOf o → r ≡ Units n → (es : List ℕ) × (o ≡ converted es) × (n ≡ length es)
-answer-units (converted es) r n a e = (es, refl, cc)
-answer-units (refused p) r n a e = absurd (let z : _≡_ {A = ℕ} 0 1 = cc in omega arith)
 
 module _ (F G : Form) (s d : List ℕ) where
   -- what a converter promises, from the outcome and the room
@@ -57,17 +50,17 @@ module _ (F G : Form) (s d : List ℕ) where
 
   module _ (r : Conversion) (a : r ≡ answerOf (outcome F G s)) where
     pub writing-refused : (q : Refusal) → r ≡ Refused q → Converts F G s d r d
-    writing-refused q e = rw e (converts-refused q (answer-refused (outcome F G s) r q a e))
+    writing-refused q e = rw e (converts-refused q (answer-refused (outcome F G s) q (sym a ∙ e)))
 
     module _ (n : ℕ) (e : r ≡ Units n) where
       pub writing-short : (q : Refusal) → q ≡ refusal BufferTooShort 0 → length d < n → Converts F G s d (Refused q) d
       writing-short q z h =
-          let u = answer-units (outcome F G s) r n a e in
+          let u = answer-units (outcome F G s) n (sym a ∙ e) in
           rw z (converts-short (u .0) (u .1) (omega (arith, u .2)))
 
       pub writing-begin : n ≤ length d → Writing 0 0 d
       writing-begin h =
-          let u = answer-units (outcome F G s) r n a e in
+          let u = answer-units (outcome F G s) n (sym a ∙ e) in
           record {
             result = u .0;
             all = u .1;

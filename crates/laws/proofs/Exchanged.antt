@@ -58,6 +58,13 @@ module _ (to from : ℕ → ℕ) (F : Form) where
   pub first-exchanged : (u : ℕ) (us : List ℕ) → exchangedSequence to (firstOf G u us) ≡ firstOf F (to u) (map to us)
   first-exchanged u us = ap (sequence (to u)) (map-taken (asked (F .role (to u))) us)
 
+  map-unless : (o : Option Fault) (e : List ℕ) → unless o (map from e) ≡ map from (unless o e)
+  map-unless none e = refl
+  map-unless (some f) e = refl
+
+  pub encode-from : (v : ℕ) → encode G v ≡ map from (encode F v)
+  encode-from v = map-unless (F .excluded v) (F .shortest v)
+
   module _
       (there : (u : ℕ) → F .role (to u) ≢ invalid → from (to u) ≡ u)
       (again : (x : ℕ) → F .role x ≢ invalid → to (from x) ≡ x)
@@ -105,13 +112,6 @@ module _ (to from : ℕ → ℕ) (F : Form) where
                 };
             shows = full-same (exchangedSequence from c) ∙ ap (fullContent F) (to-from-sequence c (r .full)) ∙ r .shows;
           }
-
-      map-unless : (o : Option Fault) (e : List ℕ) → unless o (map from e) ≡ map from (unless o e)
-      map-unless none e = refl
-      map-unless (some f) e = refl
-
-      encode-from : (v : ℕ) → encode G v ≡ map from (encode F v)
-      encode-from v = map-unless (F .excluded v) (F .shortest v)
 
       legal-of : (v : ℕ) (c : Sequence) (e : List ℕ) → encode F v ≡ e → map from e ≡ units c → Reads G c v
       legal-of v c [] q h = absurd (let z : _≡_ {A = ℕ} 0 1 = cc in omega arith)

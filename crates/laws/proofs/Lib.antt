@@ -13,6 +13,10 @@ pub mod Spans
 pub mod LayoutTable
 pub mod Items
 pub mod Characters
-pub mod RoundTrip
 pub mod Buffers
 pub mod Progress
+pub mod Exactness
+pub mod Answers
+pub mod Room
+pub mod RoundTrip
+pub mod TwelvePairs

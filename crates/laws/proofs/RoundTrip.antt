@@ -1,11 +1,18 @@
 -- There and back: what a text is converted to is converted back to the text, over any two forms that keep the laws.
-use Prim.Native.Nat.{ℕ}
+use Prim.Native.Nat.{ℕ, _≤_}
 use mathlib.Core.Path.{_≡_, refl, sym, ap, _∙_}
-use mathlib.Core.List.{List}
+use mathlib.Core.List.{List, _++_}
+use native.Mathlib.Omega.{arith}
+use borrow.Author.Tests.{le-ltb}
+use lib.ListN.{length, take, drop}
+use Rattle.forms.specs.declared.Conversion.{Conversion}
+use Rattle.forms.specs.declared.Conversion.the-variants.{Units}
+use Rattle.forms.specs.Fault.{limit}
 use Rattle.forms.specs.Form.{Form, items}
-use Rattle.forms.specs.Conversion.{converted, convertItems}
+use Rattle.forms.specs.Conversion.{Outcome, converted, convertItems, inRoom, strict, answerOf, cellsOf, Converts}
 use Rattle.laws.proofs.FormLaws.{Laws}
 use Rattle.laws.proofs.Characters.{items-characters, convert-characters, Accepted, accepted}
+use Rattle.laws.proofs.Answers.{within-items, converts-units}
 
 pub there-and-back : (F G : Form) → Laws F → Laws G → (s es : List ℕ) → convertItems G (items F s) ≡ converted es → convertItems F (items G es) ≡ converted s
 there-and-back F G source target s es h =
@@ -14,3 +21,23 @@ there-and-back F G source target s es h =
     ∙ ap (convertItems F) (items-characters G target (a .values) (a .to))
     ∙ convert-characters G target F (a .values) 0 (a .from)
     ∙ ap converted (sym (a .source))
+
+-- of the calls: the front of the first result buffer, where it is short enough to be read again and the room suffices, comes back as the text
+abbrev pub RoundTrip : Form → Form → Type 0
+RoundTrip F G =
+    (s d : List ℕ) (n : ℕ) (o : List ℕ) → Converts F G s d (Units n) o → n ≤ limit
+    → (b : List ℕ) (r : Conversion) (p : List ℕ) → Converts G F (take n o) b r p → length s ≤ length b
+    → (r ≡ Units (length s)) × (p ≡ s ++ drop (length s) b)
+
+pub round-trip : (F G : Form) → Laws F → Laws G → RoundTrip F G
+round-trip F G source target s d n o c short b r p back room =
+    let u = converts-units F G s d n o c in
+    let h = there-and-back F G source target s (u .0) (within-items F G s (u .0) (u .1)) in
+    let e : strict G F (take n o) (length b) ≡ converted s = go (take n o) (u .0) (u .3) (omega (arith, u .2)) h in
+    (back .answer ∙ ap answerOf e, back .cells ∙ ap (λ (x : Outcome). cellsOf x b) e)
+  where
+    go : (t es : List ℕ) → t ≡ es → length es ≤ limit → convertItems F (items G es) ≡ converted s → strict G F t (length b) ≡ converted s
+    go t es q l h =
+        ap (λ (x : List ℕ). strict G F x (length b)) q
+        ∙ rw (le-ltb limit (length es) l)
+        (ap (inRoom (length b)) h ∙ rw (le-ltb (length b) (length s) room))

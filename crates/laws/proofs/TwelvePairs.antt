@@ -1,0 +1,111 @@
+-- What a caller of the converter and of the measure of each pair of forms has besides their contracts.
+use Prim.Native.Nat.{ℕ, _*_, _/_, _≤_}
+use mathlib.Core.Path.{_≡_, refl}
+use mathlib.Core.Bool.{Bool, true, false, cond, _||_}
+use mathlib.Core.List.{List}
+use mathlib.Core.Option.{none, some}
+use native.Mathlib.Omega.{arith}
+use native.Mathlib.Nat.{le-div-iff-mul-le}
+use lib.Dec.{ltb}
+use Rattle.forms.specs.declared.Fault.{Fault}
+use Rattle.forms.specs.declared.Fault.the-variants.{Unrepresentable, ValueTooLarge}
+use Rattle.forms.specs.Form.{Form}
+use Rattle.forms.specs.Layout.{Layout}
+use Rattle.forms.specs.Forms.{byteLayout, isSurrogate, utf16Layout, ucs4Layout, fssUtf, utfEbcdic, utf16, ucs4}
+use Rattle.laws.proofs.FormLaws.{Laws}
+use Rattle.laws.proofs.FourForms.{fssUtf-laws, utfEbcdic-laws, utf16-laws, ucs4-laws}
+use Rattle.laws.proofs.Exactness.{OwnFault, OwnFaults, other-number, Exact, exact, ExactLength, exact-length}
+use Rattle.laws.proofs.RoundTrip.{RoundTrip, round-trip}
+use Rattle.laws.proofs.Room.{Writes, fssUtf-writes, utfEbcdic-writes, utf16-writes, ucs4-writes, boundTests, Room, room}
+
+pub record Pair (F G : Form) (most : ℕ → ℕ) : Type 0 where
+  -- each answer is given exactly when document 01 says so
+  pub answers : (s : List ℕ) (n : ℕ) → Exact F G s n
+  pub lengths : (s : List ℕ) → ExactLength F G s
+  -- an accepted text of n units has a result of at most so many
+  pub room : Room F G most
+  -- and comes back from the other form as it was
+  pub back : RoundTrip F G
+
+-- a supplied form, with what the laws ask of it
+record Supplied (F : Form) (L : Layout) : Type 0 where
+  pub laws : Laws F
+  pub own : OwnFaults F
+  pub writes : Writes F L
+
+only-fault : (b : Bool) (g f : Fault) → cond b (some g) none ≡ some f → g ≡ f
+only-fault true g f e = cc
+only-fault false g f e = absurd (let z : _≡_ {A = ℕ} 0 1 = cc in omega arith)
+
+one-fault : (b : Bool) (g f : Fault) → OwnFault g → cond b (some g) none ≡ some f → OwnFault f
+one-fault b g f o e = rw (only-fault b g f e) at o
+
+too-large : OwnFault ValueTooLarge
+too-large = other-number ValueTooLarge (λ e. omega arith) (λ e. omega arith)
+
+unheld : OwnFault Unrepresentable
+unheld = other-number Unrepresentable (λ e. omega arith) (λ e. omega arith)
+
+fssUtf-supplied : Supplied fssUtf (byteLayout 6 6)
+fssUtf-supplied = record { laws = fssUtf-laws; own = λ v f e. one-fault (ltb 0x7FFFFFFF v) ValueTooLarge f too-large e; writes = fssUtf-writes }
+
+utfEbcdic-supplied : Supplied utfEbcdic (byteLayout 5 7)
+utfEbcdic-supplied = record { laws = utfEbcdic-laws; own = λ v f e. one-fault (ltb 0x7FFFFFFF v) ValueTooLarge f too-large e; writes = utfEbcdic-writes }
+
+utf16-supplied : Supplied utf16 utf16Layout
+utf16-supplied =
+    record { laws = utf16-laws; own = λ v f e. one-fault (isSurrogate v || ltb 0x10FFFF v) Unrepresentable f unheld e; writes = utf16-writes }
+
+ucs4-supplied : Supplied ucs4 ucs4Layout
+ucs4-supplied = record { laws = ucs4-laws; own = λ v f e. absurd (let z : _≡_ {A = ℕ} 0 1 = cc in omega arith); writes = ucs4-writes }
+
+pair :
+    (F G : Form) (L M : Layout) → Supplied F L → Supplied G M → (a b : ℕ) → boundTests a b L M ≡ true → (most : ℕ → ℕ)
+    → ((m n : ℕ) → m * b ≤ a * n → m ≤ most n) → Pair F G most
+pair F G L M f g a b test most is =
+    record {
+      answers = exact F G (f .own);
+      lengths = exact-length F G (f .own);
+      room = room F G (f .laws) L M (f .writes) (g .writes) a b test most is;
+      back = round-trip F G (f .laws) (g .laws);
+    }
+
+-- "FSS-UTF to UTF-EBCDIC 3n/2, rounded down; UTF-EBCDIC to FSS-UTF 2n"
+pub fssUtf-utfEbcdic : Pair fssUtf utfEbcdic (λ n. 3 * n / 2)
+fssUtf-utfEbcdic = pair _ _ _ _ fssUtf-supplied utfEbcdic-supplied 3 2 refl _ (λ m n h. le-div-iff-mul-le (omega arith) .1 h)
+
+pub utfEbcdic-fssUtf : Pair utfEbcdic fssUtf (λ n. 2 * n)
+utfEbcdic-fssUtf = pair _ _ _ _ utfEbcdic-supplied fssUtf-supplied 2 1 refl _ (λ m n h. omega arith)
+
+-- "UTF-16 to FSS-UTF 3n, to UTF-EBCDIC 4n, to UCS-4 n"
+pub utf16-fssUtf : Pair utf16 fssUtf (λ n. 3 * n)
+utf16-fssUtf = pair _ _ _ _ utf16-supplied fssUtf-supplied 3 1 refl _ (λ m n h. omega arith)
+
+pub utf16-utfEbcdic : Pair utf16 utfEbcdic (λ n. 4 * n)
+utf16-utfEbcdic = pair _ _ _ _ utf16-supplied utfEbcdic-supplied 4 1 refl _ (λ m n h. omega arith)
+
+pub utf16-ucs4 : Pair utf16 ucs4 (λ n. n)
+utf16-ucs4 = pair _ _ _ _ utf16-supplied ucs4-supplied 1 1 refl _ (λ m n h. omega arith)
+
+-- "UCS-4 to FSS-UTF 6n, to UTF-EBCDIC 7n, to UTF-16 2n"
+pub ucs4-fssUtf : Pair ucs4 fssUtf (λ n. 6 * n)
+ucs4-fssUtf = pair _ _ _ _ ucs4-supplied fssUtf-supplied 6 1 refl _ (λ m n h. omega arith)
+
+pub ucs4-utfEbcdic : Pair ucs4 utfEbcdic (λ n. 7 * n)
+ucs4-utfEbcdic = pair _ _ _ _ ucs4-supplied utfEbcdic-supplied 7 1 refl _ (λ m n h. omega arith)
+
+pub ucs4-utf16 : Pair ucs4 utf16 (λ n. 2 * n)
+ucs4-utf16 = pair _ _ _ _ ucs4-supplied utf16-supplied 2 1 refl _ (λ m n h. omega arith)
+
+-- "from either byte form to UTF-16 or UCS-4 n"
+pub fssUtf-utf16 : Pair fssUtf utf16 (λ n. n)
+fssUtf-utf16 = pair _ _ _ _ fssUtf-supplied utf16-supplied 1 1 refl _ (λ m n h. omega arith)
+
+pub fssUtf-ucs4 : Pair fssUtf ucs4 (λ n. n)
+fssUtf-ucs4 = pair _ _ _ _ fssUtf-supplied ucs4-supplied 1 1 refl _ (λ m n h. omega arith)
+
+pub utfEbcdic-utf16 : Pair utfEbcdic utf16 (λ n. n)
+utfEbcdic-utf16 = pair _ _ _ _ utfEbcdic-supplied utf16-supplied 1 1 refl _ (λ m n h. omega arith)
+
+pub utfEbcdic-ucs4 : Pair utfEbcdic ucs4 (λ n. n)
+utfEbcdic-ucs4 = pair _ _ _ _ utfEbcdic-supplied ucs4-supplied 1 1 refl _ (λ m n h. omega arith)
