@@ -114,6 +114,14 @@ pub put-converted : (e es : List ℕ) (r : Refusal) (o : Outcome) → put e r o 
 put-converted [] es r o h = absurd (let z : _≡_ {A = ℕ} 0 1 = cc in omega arith)
 put-converted (u ∷ e) es r o h = ((λ n. let z : _≡_ {A = ℕ} 0 1 = cc in omega arith), h)
 
+-- what an accepted text is: characters of values that both forms have encodings of; and its result: their encodings in the other
+pub record Accepted (F G : Form) (s es : List ℕ) : Type 0 where
+  pub values : List ℕ
+  pub source : s ≡ encodeAll F values
+  pub result : es ≡ encodeAll G values
+  pub from : AllEncodable F values
+  pub to : AllEncodable G values
+
 module _ (F : Form) (laws : Laws F) (G : Form) where
   -- characters that the target holds are converted one by one
   pub convert-characters : (vs : List ℕ) (p : ℕ) → AllEncodable G vs → convertItems G (charactersFrom F p vs) ≡ converted (encodeAll G vs)
@@ -122,20 +130,12 @@ module _ (F : Form) (laws : Laws F) (G : Form) where
       put-some (encode G v) (refusalAt (Character v (span p (length (encode F v))))) (convertItems G (charactersFrom F (p + length (encode F v)) vs)) (a .0)
       ∙ ap (prepend (encode G v)) (convert-characters vs (p + length (encode F v)) (a .1))
 
-  -- what an accepted text is: characters of values that both forms have encodings of
-  pub record Accepted (s es : List ℕ) : Type 0 where
-    pub values : List ℕ
-    pub source : s ≡ encodeAll F values
-    pub result : es ≡ encodeAll G values
-    pub from : AllEncodable F values
-    pub to : AllEncodable G values
-
   not-empty : (v : ℕ) (c : Sequence) → encode F v ≡ units c → encode F v ≢ []
   not-empty v c e n = let z : _≡_ {A = ℕ} 0 1 = cc in omega arith
 
   accept-one :
       (c : Sequence) (v : ℕ) (cs : List Sequence) (es fs : List ℕ) → Reads F c v → encode G v ≢ [] → es ≡ encode G v ++ fs
-      → Accepted (joined cs) fs → Accepted (units c ++ joined cs) es
+      → Accepted F G (joined cs) fs → Accepted F G (units c ++ joined cs) es
   accept-one c v cs es fs r x e a =
       let l = laws .only c v r in
       record {
@@ -146,14 +146,14 @@ module _ (F : Form) (laws : Laws F) (G : Form) where
         to = (x, a .to);
       }
 
-  accept : (cs : List Sequence) (p : ℕ) (es : List ℕ) → AllTaken F cs → convertItems G (itemsFrom F p cs) ≡ converted es → Accepted (joined cs) es
+  accept : (cs : List Sequence) (p : ℕ) (es : List ℕ) → AllTaken F cs → convertItems G (itemsFrom F p cs) ≡ converted es → Accepted F G (joined cs) es
   accept [] p es a h = let e : es ≡ [] = cc in record { values = []; source = refl; result = e; from = tt; to = tt }
   accept (c ∷ cs) p es a h = go (content F c) refl (accept cs (p + size c)) h
     where
       go :
           (t : Content) → content F c ≡ t
-          → ((fs : List ℕ) → AllTaken F cs → convertItems G (itemsFrom F (p + size c) cs) ≡ converted fs → Accepted (joined cs) fs)
-          → convertItems G (withSpan t (span p (size c)) ∷ itemsFrom F (p + size c) cs) ≡ converted es → Accepted (units c ++ joined cs) es
+          → ((fs : List ℕ) → AllTaken F cs → convertItems G (itemsFrom F (p + size c) cs) ≡ converted fs → Accepted F G (joined cs) fs)
+          → convertItems G (withSpan t (span p (size c)) ∷ itemsFrom F (p + size c) cs) ≡ converted es → Accepted F G (units c ++ joined cs) es
       go (mark f) e k h = absurd (let z : _≡_ {A = ℕ} 0 1 = cc in omega arith)
       go (character v) e k h =
           let o = convertItems G (itemsFrom F (p + size c) cs) in
@@ -161,5 +161,9 @@ module _ (F : Form) (laws : Laws F) (G : Form) where
           let r = prepend-converted (encode G v) es o (q .1) in
           accept-one c v cs es (r .0) (content-reads F c v (a .0) e) (q .0) (r .2) (k (r .0) (a .1) (r .1))
 
-  pub accepted : (s es : List ℕ) → convertItems G (items F s) ≡ converted es → Accepted s es
-  accepted s es h = subst (λ (x : List ℕ). Accepted x es) (sequences-joined F s 0) (accept (sequences F s) 0 es (all-taken F s 0) h)
+  pub accepted : (s es : List ℕ) → convertItems G (items F s) ≡ converted es → Accepted F G s es
+  accepted s es h = subst (λ (x : List ℕ). Accepted F G x es) (sequences-joined F s 0) (accept (sequences F s) 0 es (all-taken F s 0) h)
+
+  -- and a text of such characters is accepted
+  pub characters-accepted : (vs : List ℕ) → AllEncodable F vs → AllEncodable G vs → convertItems G (items F (encodeAll F vs)) ≡ converted (encodeAll G vs)
+  characters-accepted vs f g = ap (convertItems G) (items-characters F laws vs f) ∙ convert-characters vs 0 g

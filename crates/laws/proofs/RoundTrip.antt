@@ -11,15 +11,14 @@ use Rattle.forms.specs.Fault.{limit}
 use Rattle.forms.specs.Form.{Form, items}
 use Rattle.forms.specs.Conversion.{Outcome, converted, convertItems, inRoom, strict, answerOf, cellsOf, Converts}
 use Rattle.laws.proofs.FormLaws.{Laws}
-use Rattle.laws.proofs.Characters.{items-characters, convert-characters, Accepted, accepted}
+use Rattle.laws.proofs.Characters.{Accepted, accepted, characters-accepted}
 use Rattle.laws.proofs.Answers.{within-items, converts-units}
 
 pub there-and-back : (F G : Form) → Laws F → Laws G → (s es : List ℕ) → convertItems G (items F s) ≡ converted es → convertItems F (items G es) ≡ converted s
 there-and-back F G source target s es h =
     let a = accepted F source G s es h in
     ap (λ (x : List ℕ). convertItems F (items G x)) (a .result)
-    ∙ ap (convertItems F) (items-characters G target (a .values) (a .to))
-    ∙ convert-characters G target F (a .values) 0 (a .from)
+    ∙ characters-accepted G target F (a .values) (a .to) (a .from)
     ∙ ap converted (sym (a .source))
 
 -- of the calls: the front of the first result buffer, where it is short enough to be read again and the room suffices, comes back as the text

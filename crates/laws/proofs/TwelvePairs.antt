@@ -7,12 +7,19 @@ use mathlib.Core.Option.{none, some}
 use native.Mathlib.Omega.{arith}
 use native.Mathlib.Nat.{le-div-iff-mul-le}
 use lib.Dec.{ltb}
+use borrow.Author.Tests.{le-ltb}
+use lib.ListN.{length, take}
 use Rattle.forms.specs.declared.Fault.{Fault}
 use Rattle.forms.specs.declared.Fault.the-variants.{Unrepresentable, ValueTooLarge}
+use Rattle.forms.specs.declared.Conversion.the-variants.{Units}
+use Rattle.forms.specs.Fault.{limit}
 use Rattle.forms.specs.Form.{Form}
 use Rattle.forms.specs.Layout.{Layout}
 use Rattle.forms.specs.Forms.{byteLayout, isSurrogate, utf16Layout, ucs4Layout, fssUtf, utfEbcdic, utf16, ucs4}
+use Rattle.forms.specs.Conversion.{converted, outcome, Converts}
 use Rattle.laws.proofs.FormLaws.{Laws}
+use Rattle.laws.proofs.Characters.{encodeAll, AllEncodable, Accepted, accepted, characters-accepted}
+use Rattle.laws.proofs.Answers.{within-items, converts-units}
 use Rattle.laws.proofs.FourForms.{fssUtf-laws, utfEbcdic-laws, utf16-laws, ucs4-laws}
 use Rattle.laws.proofs.Exactness.{OwnFault, OwnFaults, other-number, Exact, exact, ExactLength, exact-length}
 use Rattle.laws.proofs.RoundTrip.{RoundTrip, round-trip}
@@ -22,6 +29,10 @@ pub record Pair (F G : Form) (most : ℕ → ℕ) : Type 0 where
   -- each answer is given exactly when document 01 says so
   pub answers : (s : List ℕ) (n : ℕ) → Exact F G s n
   pub lengths : (s : List ℕ) → ExactLength F G s
+  -- what is read are legal encodings, and what is written the legal encodings of the same values
+  pub characters : (s d : List ℕ) (n : ℕ) (o : List ℕ) → Converts F G s d (Units n) o → Accepted F G s (take n o)
+  -- and every text of values that both forms have encodings of is accepted
+  pub accepts : (vs : List ℕ) → AllEncodable F vs → AllEncodable G vs → length (encodeAll F vs) ≤ limit → outcome F G (encodeAll F vs) ≡ converted (encodeAll G vs)
   -- an accepted text of n units has a result of at most so many
   pub room : Room F G most
   -- and comes back from the other form as it was
@@ -66,6 +77,9 @@ pair F G L M f g a b test most is =
     record {
       answers = exact F G (f .own);
       lengths = exact-length F G (f .own);
+      characters =
+          λ s d n o c. let u = converts-units F G s d n o c in rw (u .3) (accepted F (f .laws) G s (u .0) (within-items F G s (u .0) (u .1)));
+      accepts = λ vs x y h. rw (le-ltb limit (length (encodeAll F vs)) h) (characters-accepted F (f .laws) G vs x y);
       room = room F G (f .laws) L M (f .writes) (g .writes) a b test most is;
       back = round-trip F G (f .laws) (g .laws);
     }
