@@ -10,9 +10,8 @@ mod to_utf16;
 use encoder::Target;
 use forms::Conversion;
 use tables::ByteForm;
-ghost use mathlib.Core.Path.{_≡_};
 ghost use Rattle.forms.specs.Forms.{fssUtf, utfEbcdic, utf16, ucs4};
-ghost use Rattle.forms.specs.Conversion.{outcome, answerOf, Converts};
+ghost use Rattle.forms.specs.Conversion.{Measures, Converts};
 
 pub fn fss_utf_to_utf_ebcdic(src: &[u8], dst: &mut [u8]) -> Conversion
     ensures { λ r. ⌜ Converts fssUtf utfEbcdic (now (src .entry)) (now (dst .entry)) r (now (dst .exit)) ⌝ }
@@ -21,7 +20,7 @@ pub fn fss_utf_to_utf_ebcdic(src: &[u8], dst: &mut [u8]) -> Conversion
 }
 
 pub fn fss_utf_to_utf_ebcdic_length(src: &[u8]) -> Conversion
-    ensures { λ r. ⌜ r ≡ answerOf (outcome fssUtf utfEbcdic (now (src .entry))) ⌝ }
+    ensures { λ r. ⌜ Measures fssUtf utfEbcdic (now (src .entry)) r ⌝ }
 {
     measure::bytes::measure(ByteForm::FssUtf, Target::UtfEbcdic, src)
 }
@@ -33,7 +32,7 @@ pub fn fss_utf_to_utf16(src: &[u8], dst: &mut [u16]) -> Conversion
 }
 
 pub fn fss_utf_to_utf16_length(src: &[u8]) -> Conversion
-    ensures { λ r. ⌜ r ≡ answerOf (outcome fssUtf utf16 (now (src .entry))) ⌝ }
+    ensures { λ r. ⌜ Measures fssUtf utf16 (now (src .entry)) r ⌝ }
 {
     measure::bytes::measure(ByteForm::FssUtf, Target::Utf16, src)
 }
@@ -45,7 +44,7 @@ pub fn fss_utf_to_ucs4(src: &[u8], dst: &mut [u32]) -> Conversion
 }
 
 pub fn fss_utf_to_ucs4_length(src: &[u8]) -> Conversion
-    ensures { λ r. ⌜ r ≡ answerOf (outcome fssUtf ucs4 (now (src .entry))) ⌝ }
+    ensures { λ r. ⌜ Measures fssUtf ucs4 (now (src .entry)) r ⌝ }
 {
     measure::bytes::measure(ByteForm::FssUtf, Target::Ucs4, src)
 }
@@ -57,7 +56,7 @@ pub fn utf_ebcdic_to_fss_utf(src: &[u8], dst: &mut [u8]) -> Conversion
 }
 
 pub fn utf_ebcdic_to_fss_utf_length(src: &[u8]) -> Conversion
-    ensures { λ r. ⌜ r ≡ answerOf (outcome utfEbcdic fssUtf (now (src .entry))) ⌝ }
+    ensures { λ r. ⌜ Measures utfEbcdic fssUtf (now (src .entry)) r ⌝ }
 {
     measure::bytes::measure(ByteForm::UtfEbcdic, Target::FssUtf, src)
 }
@@ -69,7 +68,7 @@ pub fn utf_ebcdic_to_utf16(src: &[u8], dst: &mut [u16]) -> Conversion
 }
 
 pub fn utf_ebcdic_to_utf16_length(src: &[u8]) -> Conversion
-    ensures { λ r. ⌜ r ≡ answerOf (outcome utfEbcdic utf16 (now (src .entry))) ⌝ }
+    ensures { λ r. ⌜ Measures utfEbcdic utf16 (now (src .entry)) r ⌝ }
 {
     measure::bytes::measure(ByteForm::UtfEbcdic, Target::Utf16, src)
 }
@@ -81,7 +80,7 @@ pub fn utf_ebcdic_to_ucs4(src: &[u8], dst: &mut [u32]) -> Conversion
 }
 
 pub fn utf_ebcdic_to_ucs4_length(src: &[u8]) -> Conversion
-    ensures { λ r. ⌜ r ≡ answerOf (outcome utfEbcdic ucs4 (now (src .entry))) ⌝ }
+    ensures { λ r. ⌜ Measures utfEbcdic ucs4 (now (src .entry)) r ⌝ }
 {
     measure::bytes::measure(ByteForm::UtfEbcdic, Target::Ucs4, src)
 }
@@ -93,7 +92,7 @@ pub fn utf16_to_fss_utf(src: &[u16], dst: &mut [u8]) -> Conversion
 }
 
 pub fn utf16_to_fss_utf_length(src: &[u16]) -> Conversion
-    ensures { λ r. ⌜ r ≡ answerOf (outcome utf16 fssUtf (now (src .entry))) ⌝ }
+    ensures { λ r. ⌜ Measures utf16 fssUtf (now (src .entry)) r ⌝ }
 {
     measure::utf16::measure(Target::FssUtf, src)
 }
@@ -105,7 +104,7 @@ pub fn utf16_to_utf_ebcdic(src: &[u16], dst: &mut [u8]) -> Conversion
 }
 
 pub fn utf16_to_utf_ebcdic_length(src: &[u16]) -> Conversion
-    ensures { λ r. ⌜ r ≡ answerOf (outcome utf16 utfEbcdic (now (src .entry))) ⌝ }
+    ensures { λ r. ⌜ Measures utf16 utfEbcdic (now (src .entry)) r ⌝ }
 {
     measure::utf16::measure(Target::UtfEbcdic, src)
 }
@@ -117,7 +116,7 @@ pub fn utf16_to_ucs4(src: &[u16], dst: &mut [u32]) -> Conversion
 }
 
 pub fn utf16_to_ucs4_length(src: &[u16]) -> Conversion
-    ensures { λ r. ⌜ r ≡ answerOf (outcome utf16 ucs4 (now (src .entry))) ⌝ }
+    ensures { λ r. ⌜ Measures utf16 ucs4 (now (src .entry)) r ⌝ }
 {
     measure::utf16::measure(Target::Ucs4, src)
 }
@@ -129,7 +128,7 @@ pub fn ucs4_to_fss_utf(src: &[u32], dst: &mut [u8]) -> Conversion
 }
 
 pub fn ucs4_to_fss_utf_length(src: &[u32]) -> Conversion
-    ensures { λ r. ⌜ r ≡ answerOf (outcome ucs4 fssUtf (now (src .entry))) ⌝ }
+    ensures { λ r. ⌜ Measures ucs4 fssUtf (now (src .entry)) r ⌝ }
 {
     measure::ucs4::measure(Target::FssUtf, src)
 }
@@ -141,7 +140,7 @@ pub fn ucs4_to_utf_ebcdic(src: &[u32], dst: &mut [u8]) -> Conversion
 }
 
 pub fn ucs4_to_utf_ebcdic_length(src: &[u32]) -> Conversion
-    ensures { λ r. ⌜ r ≡ answerOf (outcome ucs4 utfEbcdic (now (src .entry))) ⌝ }
+    ensures { λ r. ⌜ Measures ucs4 utfEbcdic (now (src .entry)) r ⌝ }
 {
     measure::ucs4::measure(Target::UtfEbcdic, src)
 }
@@ -153,7 +152,7 @@ pub fn ucs4_to_utf16(src: &[u32], dst: &mut [u16]) -> Conversion
 }
 
 pub fn ucs4_to_utf16_length(src: &[u32]) -> Conversion
-    ensures { λ r. ⌜ r ≡ answerOf (outcome ucs4 utf16 (now (src .entry))) ⌝ }
+    ensures { λ r. ⌜ Measures ucs4 utf16 (now (src .entry)) r ⌝ }
 {
     measure::ucs4::measure(Target::Utf16, src)
 }

@@ -20,7 +20,7 @@ use Rattle.forms.specs.Exchange.{ebcdicOf}
 use Rattle.forms.specs.Forms.{byteLayout, fssUtf, i8, utfEbcdic, utf16, ucs4}
 use Rattle.forms.specs.Flags.{flagOf}
 use Rattle.forms.specs.Buffer.{withUnits, Holds}
-use Rattle.forms.specs.Conversion.{refused, refusalAt, convertItems, outcome, strict, answerOf, cellsOf, Converts}
+use Rattle.forms.specs.Conversion.{refused, refusalAt, convertItems, outcome, strict, answerOf, cellsOf, Measures, Converts}
 
 pub data Example : Type 0 where
   -- a value and its legal encoding, which is read as the value
@@ -138,7 +138,10 @@ conversions =
 pub conversions-hold : map actual conversions ≡ map expected conversions
 conversions-hold = refl
 
--- a converter's promise, of an answer and of a buffer; the place of a character that the target cannot hold
+-- the promise of a measure, and of a converter for its answer and its buffer; the place of a character that the target cannot hold
+pub length-promise : Measures fssUtf utf16 (0x41 ∷ 0xC2 ∷ 0xA9 ∷ []) (Units 2)
+length-promise = record { answer = refl }
+
 pub promise : Converts fssUtf utf16 (0x41 ∷ []) (7 ∷ 8 ∷ []) (Units 1) (0x41 ∷ 8 ∷ [])
 promise = record { answer = refl; cells = refl }
 

@@ -65,6 +65,10 @@ abbrev pub cellsOf : Outcome → List ℕ → List ℕ
 cellsOf (converted es) d = es ++ drop (length es) d
 cellsOf (refused r) d = d
 
+-- what a measure promises: its answer r
+pub record Measures (F G : Form) (s : List ℕ) (r : Conversion) : Type 0 where
+  pub answer : r ≡ answerOf (outcome F G s)
+
 -- what a converter promises: its answer r, and that the result buffer d became o
 pub record Converts (F G : Form) (s d : List ℕ) (r : Conversion) (o : List ℕ) : Type 0 where
   pub answer : r ≡ answerOf (strict F G s (length d))

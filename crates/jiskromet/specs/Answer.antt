@@ -10,7 +10,7 @@ use Rattle.forms.specs.declared.Conversion.{Conversion}
 use Rattle.forms.specs.declared.Conversion.the-variants.{Units, Refused as NoUnits}
 use Rattle.forms.specs.Fault.{numberOf}
 use Rattle.forms.specs.Form.{Form}
-use Rattle.forms.specs.Conversion.{strict, answerOf, cellsOf}
+use Rattle.forms.specs.Conversion.{outcome, strict, answerOf, cellsOf}
 use Rattle.reader.specs.declared.Step.{Step}
 use Rattle.reader.specs.declared.Step.the-variants.{Next, End, Refused}
 use Rattle.jiskromet.specs.declared.JkItem.{JkItem}
@@ -41,6 +41,10 @@ jkConversion f p n = record { fault = f; offset = p; units = n }
 abbrev pub conversionAnswer : Conversion → JkConversion
 conversionAnswer (Units n) = jkConversion 0 0 n
 conversionAnswer (NoUnits r) = jkConversion (numberOf (r .fault)) (r .offset) 0
+
+-- what a measure promises to C: its answer r
+pub record MeasuresInC (F G : Form) (s : List ℕ) (r : JkConversion) : Type 0 where
+  pub answer : r ≡ conversionAnswer (answerOf (outcome F G s))
 
 -- what a converter promises to C: its answer r, and that the result buffer d became o
 pub record ConvertsInC (F G : Form) (s d : List ℕ) (r : JkConversion) (o : List ℕ) : Type 0 where

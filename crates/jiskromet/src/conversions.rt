@@ -1,10 +1,8 @@
 // The strict converters and their measures.
 use crate::JkConversion;
 use crate::conversion_answer;
-ghost use mathlib.Core.Path.{_≡_};
 ghost use Rattle.forms.specs.Forms.{fssUtf, utfEbcdic, utf16, ucs4};
-ghost use Rattle.forms.specs.Conversion.{outcome, answerOf};
-ghost use Rattle.jiskromet.specs.Answer.{conversionAnswer, ConvertsInC};
+ghost use Rattle.jiskromet.specs.Answer.{MeasuresInC, ConvertsInC};
 
 #[no_mangle]
 pub extern "C" fn jk_fss_utf_to_utf_ebcdic(src: &[u8], dst: &mut [u8]) -> JkConversion
@@ -15,7 +13,7 @@ pub extern "C" fn jk_fss_utf_to_utf_ebcdic(src: &[u8], dst: &mut [u8]) -> JkConv
 
 #[no_mangle]
 pub extern "C" fn jk_fss_utf_to_utf_ebcdic_length(src: &[u8]) -> JkConversion
-    ensures { λ r. ⌜ r ≡ conversionAnswer (answerOf (outcome fssUtf utfEbcdic (now (src .entry)))) ⌝ }
+    ensures { λ r. ⌜ MeasuresInC fssUtf utfEbcdic (now (src .entry)) r ⌝ }
 {
     conversion_answer(conversion::fss_utf_to_utf_ebcdic_length(src))
 }
@@ -29,7 +27,7 @@ pub extern "C" fn jk_fss_utf_to_utf16(src: &[u8], dst: &mut [u16]) -> JkConversi
 
 #[no_mangle]
 pub extern "C" fn jk_fss_utf_to_utf16_length(src: &[u8]) -> JkConversion
-    ensures { λ r. ⌜ r ≡ conversionAnswer (answerOf (outcome fssUtf utf16 (now (src .entry)))) ⌝ }
+    ensures { λ r. ⌜ MeasuresInC fssUtf utf16 (now (src .entry)) r ⌝ }
 {
     conversion_answer(conversion::fss_utf_to_utf16_length(src))
 }
@@ -43,7 +41,7 @@ pub extern "C" fn jk_fss_utf_to_ucs4(src: &[u8], dst: &mut [u32]) -> JkConversio
 
 #[no_mangle]
 pub extern "C" fn jk_fss_utf_to_ucs4_length(src: &[u8]) -> JkConversion
-    ensures { λ r. ⌜ r ≡ conversionAnswer (answerOf (outcome fssUtf ucs4 (now (src .entry)))) ⌝ }
+    ensures { λ r. ⌜ MeasuresInC fssUtf ucs4 (now (src .entry)) r ⌝ }
 {
     conversion_answer(conversion::fss_utf_to_ucs4_length(src))
 }
@@ -57,7 +55,7 @@ pub extern "C" fn jk_utf_ebcdic_to_fss_utf(src: &[u8], dst: &mut [u8]) -> JkConv
 
 #[no_mangle]
 pub extern "C" fn jk_utf_ebcdic_to_fss_utf_length(src: &[u8]) -> JkConversion
-    ensures { λ r. ⌜ r ≡ conversionAnswer (answerOf (outcome utfEbcdic fssUtf (now (src .entry)))) ⌝ }
+    ensures { λ r. ⌜ MeasuresInC utfEbcdic fssUtf (now (src .entry)) r ⌝ }
 {
     conversion_answer(conversion::utf_ebcdic_to_fss_utf_length(src))
 }
@@ -71,7 +69,7 @@ pub extern "C" fn jk_utf_ebcdic_to_utf16(src: &[u8], dst: &mut [u16]) -> JkConve
 
 #[no_mangle]
 pub extern "C" fn jk_utf_ebcdic_to_utf16_length(src: &[u8]) -> JkConversion
-    ensures { λ r. ⌜ r ≡ conversionAnswer (answerOf (outcome utfEbcdic utf16 (now (src .entry)))) ⌝ }
+    ensures { λ r. ⌜ MeasuresInC utfEbcdic utf16 (now (src .entry)) r ⌝ }
 {
     conversion_answer(conversion::utf_ebcdic_to_utf16_length(src))
 }
@@ -85,7 +83,7 @@ pub extern "C" fn jk_utf_ebcdic_to_ucs4(src: &[u8], dst: &mut [u32]) -> JkConver
 
 #[no_mangle]
 pub extern "C" fn jk_utf_ebcdic_to_ucs4_length(src: &[u8]) -> JkConversion
-    ensures { λ r. ⌜ r ≡ conversionAnswer (answerOf (outcome utfEbcdic ucs4 (now (src .entry)))) ⌝ }
+    ensures { λ r. ⌜ MeasuresInC utfEbcdic ucs4 (now (src .entry)) r ⌝ }
 {
     conversion_answer(conversion::utf_ebcdic_to_ucs4_length(src))
 }
@@ -99,7 +97,7 @@ pub extern "C" fn jk_utf16_to_fss_utf(src: &[u16], dst: &mut [u8]) -> JkConversi
 
 #[no_mangle]
 pub extern "C" fn jk_utf16_to_fss_utf_length(src: &[u16]) -> JkConversion
-    ensures { λ r. ⌜ r ≡ conversionAnswer (answerOf (outcome utf16 fssUtf (now (src .entry)))) ⌝ }
+    ensures { λ r. ⌜ MeasuresInC utf16 fssUtf (now (src .entry)) r ⌝ }
 {
     conversion_answer(conversion::utf16_to_fss_utf_length(src))
 }
@@ -113,7 +111,7 @@ pub extern "C" fn jk_utf16_to_utf_ebcdic(src: &[u16], dst: &mut [u8]) -> JkConve
 
 #[no_mangle]
 pub extern "C" fn jk_utf16_to_utf_ebcdic_length(src: &[u16]) -> JkConversion
-    ensures { λ r. ⌜ r ≡ conversionAnswer (answerOf (outcome utf16 utfEbcdic (now (src .entry)))) ⌝ }
+    ensures { λ r. ⌜ MeasuresInC utf16 utfEbcdic (now (src .entry)) r ⌝ }
 {
     conversion_answer(conversion::utf16_to_utf_ebcdic_length(src))
 }
@@ -127,7 +125,7 @@ pub extern "C" fn jk_utf16_to_ucs4(src: &[u16], dst: &mut [u32]) -> JkConversion
 
 #[no_mangle]
 pub extern "C" fn jk_utf16_to_ucs4_length(src: &[u16]) -> JkConversion
-    ensures { λ r. ⌜ r ≡ conversionAnswer (answerOf (outcome utf16 ucs4 (now (src .entry)))) ⌝ }
+    ensures { λ r. ⌜ MeasuresInC utf16 ucs4 (now (src .entry)) r ⌝ }
 {
     conversion_answer(conversion::utf16_to_ucs4_length(src))
 }
@@ -141,7 +139,7 @@ pub extern "C" fn jk_ucs4_to_fss_utf(src: &[u32], dst: &mut [u8]) -> JkConversio
 
 #[no_mangle]
 pub extern "C" fn jk_ucs4_to_fss_utf_length(src: &[u32]) -> JkConversion
-    ensures { λ r. ⌜ r ≡ conversionAnswer (answerOf (outcome ucs4 fssUtf (now (src .entry)))) ⌝ }
+    ensures { λ r. ⌜ MeasuresInC ucs4 fssUtf (now (src .entry)) r ⌝ }
 {
     conversion_answer(conversion::ucs4_to_fss_utf_length(src))
 }
@@ -155,7 +153,7 @@ pub extern "C" fn jk_ucs4_to_utf_ebcdic(src: &[u32], dst: &mut [u8]) -> JkConver
 
 #[no_mangle]
 pub extern "C" fn jk_ucs4_to_utf_ebcdic_length(src: &[u32]) -> JkConversion
-    ensures { λ r. ⌜ r ≡ conversionAnswer (answerOf (outcome ucs4 utfEbcdic (now (src .entry)))) ⌝ }
+    ensures { λ r. ⌜ MeasuresInC ucs4 utfEbcdic (now (src .entry)) r ⌝ }
 {
     conversion_answer(conversion::ucs4_to_utf_ebcdic_length(src))
 }
@@ -169,7 +167,7 @@ pub extern "C" fn jk_ucs4_to_utf16(src: &[u32], dst: &mut [u16]) -> JkConversion
 
 #[no_mangle]
 pub extern "C" fn jk_ucs4_to_utf16_length(src: &[u32]) -> JkConversion
-    ensures { λ r. ⌜ r ≡ conversionAnswer (answerOf (outcome ucs4 utf16 (now (src .entry)))) ⌝ }
+    ensures { λ r. ⌜ MeasuresInC ucs4 utf16 (now (src .entry)) r ⌝ }
 {
     conversion_answer(conversion::ucs4_to_utf16_length(src))
 }

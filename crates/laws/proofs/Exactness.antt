@@ -17,6 +17,7 @@ use Rattle.forms.specs.declared.Item.{Item}
 use Rattle.forms.specs.declared.Refusal.{Refusal}
 use Rattle.forms.specs.Fault.{numberOf, limit, refusal}
 use Rattle.forms.specs.Form.{Role, lead, trailing, invalid, Sequence, size, Form, sequences, Content, character, mark, overlong, carried, fullContent, contentAs, content, span, withSpan, itemsFrom, items}
+use Rattle.laws.proofs.Outcomes.{outcomes-differ, refused-same, converted-same}
 use Rattle.forms.specs.Conversion.{Outcome, converted, refused, encoding, refusalAt, prepend, put, convertItems, outcome, inRoom, strict}
 
 -- every item is a character that the target holds
@@ -38,15 +39,6 @@ pub record FirstFault (G : Form) (is : List Item) (r : Refusal) : Type 0 where
   pub earlier : AllHeld G before
   pub unheld : encoding G item ≡ []
   pub given : r ≡ refusalAt item
-
-outcomes-differ : {A : Type 0} {es : List ℕ} {r : Refusal} → refused r ≡ converted es → A
-outcomes-differ e = absurd (let z : _≡_ {A = ℕ} 0 1 = cc in omega arith)
-
-refused-same : {q r : Refusal} → refused q ≡ refused r → q ≡ r
-refused-same e = cc
-
-converted-same : {d e : List ℕ} → converted d ≡ converted e → d ≡ e
-converted-same e = cc
 
 module _ (G : Form) where
   all-held : (is : List Item) → AllHeld G is → convertItems G is ≡ converted (encodings G is)

@@ -14,6 +14,7 @@ pub mod LayoutTable
 pub mod Items
 pub mod Characters
 pub mod Buffers
+pub mod Outcomes
 pub mod Progress
 pub mod Exactness
 pub mod Answers

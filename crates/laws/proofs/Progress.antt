@@ -7,7 +7,9 @@ use native.Mathlib.Omega.{arith}
 use native.Mathlib.Decide.{decLt}
 use borrow.Author.Tests.{le-ltb, lt-ltb}
 use lib.ListN.{length, getD, drop, length-append}
+use Rattle.forms.specs.declared.Fault.{Fault}
 use Rattle.forms.specs.declared.Fault.the-variants.{SourceTooLong}
+use Rattle.forms.specs.declared.Span.{Span}
 use Rattle.forms.specs.declared.Item.{Item}
 use Rattle.forms.specs.declared.Item.the-variants.{Character, Mark}
 use Rattle.forms.specs.declared.Refusal.{Refusal}
@@ -35,21 +37,49 @@ put-fits d (u ∷ e) es r (converted fs) h =
     let q : es ≡ d ++ ((u ∷ e) ++ fs) = cc in
     ((λ n. let z : _≡_ {A = ℕ} 0 1 = cc in omega arith), omega (arith, ap length q, length-append d ((u ∷ e) ++ fs), length-append (u ∷ e) fs))
 
--- a character of a text has a value below 80000000
-with-character : (t : Content) (v : ℕ) → (p : _) → (q : _) → withSpan t q ≡ Character v p → t ≡ character v
+with-character : (t : Content) (v : ℕ) (p q : Span) → withSpan t q ≡ Character v p → t ≡ character v
 with-character (character w) v p q h = let e : w ≡ v = cc in ap character e
 with-character (mark f) v p q h = absurd (let z : _≡_ {A = ℕ} 0 1 = cc in omega arith)
 
-module _ (F G : Form) (s : List ℕ) where
-  -- the items before `at` became the units `done`
-  pub record Progress (at : ℕ) (done : List ℕ) : Type 0 where
-    pub within : at ≤ length s
-    pub whole : outcome F G s ≡ prepend done (convertItems G (itemsOnward F s at))
+-- the character v with the span q stands at p, inside the text
+pub record CharacterAt (F : Form) (s : List ℕ) (p v : ℕ) (q : Span) : Type 0 where
+  pub inside : p < length s
+  pub is : Character v q ≡ itemOf F p (sequenceAt F s p)
 
-  pub progress-begin : length s ≤ limit → Progress 0 []
+-- a mark stands there
+pub record MarkAt (F : Form) (s : List ℕ) (p : ℕ) (f : Fault) (q : Span) : Type 0 where
+  pub inside : p < length s
+  pub is : Mark f q ≡ itemOf F p (sequenceAt F s p)
+
+pub character-at : {F : Form} {s : List ℕ} {p v : ℕ} {q : Span} {i : Item} → p < length s → i ≡ itemOf F p (sequenceAt F s p) → i ≡ Character v q → CharacterAt F s p v q
+character-at h k e = record { inside = h; is = sym e ∙ k }
+
+pub mark-at : {F : Form} {s : List ℕ} {p : ℕ} {f : Fault} {q : Span} {i : Item} → p < length s → i ≡ itemOf F p (sequenceAt F s p) → i ≡ Mark f q → MarkAt F s p f q
+mark-at h k e = record { inside = h; is = sym e ∙ k }
+
+-- a character of a text has a value below 80000000
+pub character-small : {F : Form} {s : List ℕ} {p v : ℕ} {q : Span} → Laws F → CharacterAt F s p v q → v < 0x80000000
+character-small {F} {s} {p} {v} {q} laws c =
+    let t = sequenceAt F s p in
+    laws .small t v
+    (content-reads F t v (taken-trailing F (asked (F .role (t .first))) (drop (p + 1) s)) (with-character (content F t) v q (span p (size t)) (sym (c .is))))
+
+-- and carries a loop on, within the text
+pub character-onward : {F : Form} {s : List ℕ} {p v : ℕ} {q : Span} → CharacterAt F s p v q → (1 ≤ q .length) × (p + q .length ≤ length s)
+character-onward {F} {s} {p} {v} {q} c =
+    let e : q .length ≡ size (sequenceAt F s p) = ap (λ (x : Item). (spanOf x) .length) (c .is) ∙ length-at F s p (c .inside) in
+    (omega arith, omega (arith, within-at F s p (c .inside)))
+
+-- the items before `at` became the units `done`
+pub record Progress (F G : Form) (s : List ℕ) (at : ℕ) (done : List ℕ) : Type 0 where
+  pub within : at ≤ length s
+  pub whole : outcome F G s ≡ prepend done (convertItems G (itemsOnward F s at))
+
+module _ (F G : Form) (s : List ℕ) where
+  pub progress-begin : length s ≤ limit → Progress F G s 0 []
   progress-begin h = record { within = omega arith; whole = rw (le-ltb limit (length s) h) (prepend-none (convertItems G (items F s))) }
 
-  pub progress-end : (at : ℕ) (done : List ℕ) → Progress at done → length s ≤ at → outcome F G s ≡ converted done
+  pub progress-end : (at : ℕ) (done : List ℕ) → Progress F G s at done → length s ≤ at → outcome F G s ≡ converted done
   progress-end at done q h = q .whole ∙ rw (items-end F s at h) (ap converted (append-nil done))
 
   pub progress-over : limit < length s → outcome F G s ≡ refused (refusal SourceTooLong 0)
@@ -63,38 +93,28 @@ module _ (F G : Form) (s : List ℕ) where
       go (yes d) = absurd (let q : refused (refusal SourceTooLong 0) ≡ converted es = sym (progress-over d) ∙ e in let z : _≡_ {A = ℕ} 0 1 = cc in omega arith)
       go (no d) = omega arith
 
-  module _ (p : ℕ) (h : p < length s) (i : Item) (e : i ≡ itemOf F p (sequenceAt F s p)) where
-    pub item-length : (spanOf i) .length ≡ size (sequenceAt F s p)
-    item-length = ap (λ (x : Item). (spanOf x) .length) e ∙ length-at F s p h
-
-    pub item-within : p + (spanOf i) .length ≤ length s
-    item-within = omega (arith, item-length, within-at F s p h)
-
+  module _ (p : ℕ) (h : p < length s) (i : Item) (e : i ≡ itemOf F p (sequenceAt F s p)) (done : List ℕ) (q : Progress F G s p done) where
     onward : itemsOnward F s p ≡ i ∷ itemsOnward F s (p + (spanOf i) .length)
     onward = items-step F s p h ∙ rw (e, length-at F s p h)
 
-    here : (done : List ℕ) → Progress p done → outcome F G s ≡ prepend done (put (encoding G i) (refusalAt i) (convertItems G (itemsOnward F s (p + (spanOf i) .length))))
-    here done q = q .whole ∙ ap (λ (x : List Item). prepend done (convertItems G x)) onward
+    -- what the items behind this one come to
+    abbrev behind : Outcome
+    behind = convertItems G (itemsOnward F s (p + (spanOf i) .length))
 
-    pub progress-more : (done : List ℕ) → Progress p done → encoding G i ≢ [] → Progress (p + (spanOf i) .length) (done ++ encoding G i)
-    progress-more done q n =
-        let o = convertItems G (itemsOnward F s (p + (spanOf i) .length)) in
-        record {
-          within = item-within;
-          whole = here done q ∙ ap (prepend done) (put-some (encoding G i) (refusalAt i) o n) ∙ prepend-twice done (encoding G i) o;
-        }
+    here : outcome F G s ≡ prepend done (put (encoding G i) (refusalAt i) behind)
+    here = q .whole ∙ ap (λ (x : List Item). prepend done (convertItems G x)) onward
 
-    pub progress-stops : (done : List ℕ) → Progress p done → encoding G i ≡ [] → outcome F G s ≡ refused (refusalAt i)
-    progress-stops done q n = here done q ∙ rw n
+    pub progress-stops : encoding G i ≡ [] → outcome F G s ≡ refused (refusalAt i)
+    progress-stops n = here ∙ rw n
+
+    progress-some : p + (spanOf i) .length ≤ length s → encoding G i ≢ [] → Progress F G s (p + (spanOf i) .length) (done ++ encoding G i)
+    progress-some w n =
+        record { within = w; whole = here ∙ ap (prepend done) (put-some (encoding G i) (refusalAt i) behind n) ∙ prepend-twice done (encoding G i) behind }
 
     -- where the whole comes to a result, so does each item
-    pub progress-next : (done es : List ℕ) → Progress p done → outcome F G s ≡ converted es → (encoding G i ≢ []) × (length done + length (encoding G i) ≤ length es)
-    progress-next done es q c =
-        put-fits done (encoding G i) es (refusalAt i) (convertItems G (itemsOnward F s (p + (spanOf i) .length))) (sym c ∙ here done q)
+    pub progress-next : (es : List ℕ) → outcome F G s ≡ converted es → (encoding G i ≢ []) × (length done + length (encoding G i) ≤ length es)
+    progress-next es c = put-fits done (encoding G i) es (refusalAt i) behind (sym c ∙ here)
 
-pub character-small :
-    (F : Form) → Laws F → (s : List ℕ) (p v : ℕ) → (q : _) → Character v q ≡ itemOf F p (sequenceAt F s p) → v < 0x80000000
-character-small F laws s p v q e =
-    let c = sequenceAt F s p in
-    laws .small c v
-    (content-reads F c v (taken-trailing F (asked (F .role (c .first))) (drop (p + 1) s)) (with-character (content F c) v q (span p (size c)) (sym e)))
+  pub progress-more :
+      (p v : ℕ) (q : Span) (done : List ℕ) → CharacterAt F s p v q → Progress F G s p done → encode G v ≢ [] → Progress F G s (p + q .length) (done ++ encode G v)
+  progress-more p v q done c w n = progress-some p (c .inside) (Character v q) (c .is) done w (character-onward c .1) n

@@ -4,13 +4,12 @@ use forms::Conversion;
 use forms::Item;
 use forms::Refusal;
 use tables::ByteForm;
-ghost use mathlib.Core.Path.{_≡_};
-ghost use Rattle.forms.specs.Conversion.{outcome, answerOf};
+ghost use Rattle.forms.specs.Conversion.{Measures};
 ghost use Rattle.tables.specs.ByteForms.{byteForm};
 ghost use Rattle.encoder.specs.Target.{targetForm};
 
 pub fn measure(form: ByteForm, target: Target, src: &[u8]) -> Conversion
-    ensures { λ r. ⌜ r ≡ answerOf (outcome (byteForm form) (targetForm target) (now (src .entry))) ⌝ }
+    ensures { λ r. ⌜ Measures (byteForm form) (targetForm target) (now (src .entry)) r ⌝ }
 {
     if 65536 < src.len() {
         return Conversion::Refused(Refusal::source_too_long());

@@ -3,13 +3,12 @@ use encoder::Target;
 use forms::Conversion;
 use forms::Item;
 use forms::Refusal;
-ghost use mathlib.Core.Path.{_≡_};
 ghost use Rattle.forms.specs.Forms.{utf16};
-ghost use Rattle.forms.specs.Conversion.{outcome, answerOf};
+ghost use Rattle.forms.specs.Conversion.{Measures};
 ghost use Rattle.encoder.specs.Target.{targetForm};
 
 pub fn measure(target: Target, src: &[u16]) -> Conversion
-    ensures { λ r. ⌜ r ≡ answerOf (outcome utf16 (targetForm target) (now (src .entry))) ⌝ }
+    ensures { λ r. ⌜ Measures utf16 (targetForm target) (now (src .entry)) r ⌝ }
 {
     if 65536 < src.len() {
         return Conversion::Refused(Refusal::source_too_long());

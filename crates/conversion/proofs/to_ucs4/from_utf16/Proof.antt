@@ -1,17 +1,13 @@
-use Prim.Native.Nat.{ℕ, _+_, _-_, _≤_, _<_}
-use mathlib.Core.Path.{_≡_, sym, ap, _∙_}
-use mathlib.Core.Logic.{_≢_}
-use mathlib.Core.List.{List, []}
+use Prim.Native.Nat.{_-_}
 use native.Mathlib.Omega.{arith}
 use borrow.Author.Needs.{needs}
 use lib.ListN.{length}
 use denote.Ref.{now}
-use Rattle.forms.specs.Form.{Form, encode}
 use Rattle.forms.specs.Forms.{utf16, ucs4}
-use Rattle.forms.specs.Conversion.{outcome, answerOf}
-use Rattle.laws.proofs.Progress.{character-small}
 use Rattle.laws.proofs.FourForms.{utf16-laws}
-use Rattle.conversion.proofs.Writing.{Writing, writing-refused, writing-short, writing-begin, writing-end, writing-mark, writing-held, writing-onward, writing-more}
+use Rattle.forms.specs.Conversion.{Measures}
+use Rattle.laws.proofs.Progress.{CharacterAt, character-at, mark-at, character-small, character-onward}
+use Rattle.conversion.proofs.Writing.{Writing, writing-refused, writing-short, writing-begin, writing-end, writing-mark, writing-held, writing-more}
 use Rattle.conversion.proofs.to_ucs4.from_utf16.Statement.{statement}
 use Rattle.conversion.proofs.to_ucs4.from_utf16.Tie as tie
 
@@ -25,26 +21,11 @@ abbrev μ-loop : tie.MeasureT-loop
 abbrev Measured : Type 0
 Measured = tie.After-measure Inv-loop μ-loop
 
-abbrev begun : Measured → tie.Start Inv-loop μ-loop
-begun m = m .before .before .before
+abbrev start : Measured → tie.Start Inv-loop μ-loop
+start m = m .before .before .before
 
-abbrev source : Measured → Form
-source m = utf16
-
-abbrev target : Measured → Form
-target m = ucs4
-
-abbrev text : Measured → List ℕ
-text m = now (begun m .args .src)
-
-abbrev buffer : Measured → List ℕ
-buffer m = now (begun m .args .dst)
-
-answer : (m : Measured) → m .measure .result ≡ answerOf (outcome (source m) (target m) (text m))
-answer m = m .measure .ensures
-
-abbrev measured : tie.At-loop Inv-loop μ-loop → Measured
-measured l = l .before .before .before .before .before
+measured : (m : Measured) → Measures utf16 ucs4 (now (start m .args .src)) (m .measure .result)
+measured m = m .measure .ensures
 
 -- behind the character of an item
 abbrev Character : Type 0
@@ -53,30 +34,11 @@ Character = tie.After-item Inv-loop μ-loop
 abbrev loop : Character → tie.At-loop Inv-loop μ-loop
 loop c = c .before .before .before .before
 
-held : (c : Character) → let e = encode (target (measured (loop c))) (c .item .given .0 .0) in (e ≢ []) × (loop c .loop .written + length e ≤ length (loop c .loop .dst))
-held c =
-    let l = loop c in
-    let m = measured l in
-    let r = c .before .before .item-at in
-    let i = c .item .given in
-    writing-held (source m) (target m) (text m) (buffer m) (l .loop .at) (c .before .before .before .loop-test .taken) (l .loop .written) (l .loop .dst) (l .loop .inv) (r .result) (r .ensures)
-    (i .0 .0) (i .0 .1 .0) (i .1)
+abbrev begun : Character → tie.Start Inv-loop μ-loop
+begun c = start (loop c .before .before .before .before .before)
 
-small : (c : Character) → c .item .given .0 .0 < 0x80000000
-small c =
-    let l = loop c in
-    let m = measured l in
-    let i = c .item .given in
-    character-small (source m) utf16-laws (text m) (l .loop .at) (i .0 .0) (i .0 .1 .0) (sym (i .1) ∙ c .before .before .item-at .ensures)
-
-onward : (c : Character) → (1 ≤ c .item .given .0 .1 .0 .length) × (loop c .loop .at + c .item .given .0 .1 .0 .length ≤ length (text (measured (loop c))))
-onward c =
-    let l = loop c in
-    let m = measured l in
-    let r = c .before .before .item-at in
-    let i = c .item .given in
-    writing-onward (source m) (target m) (text m) (buffer m) (l .loop .at) (c .before .before .before .loop-test .taken) (l .loop .written) (l .loop .dst) (l .loop .inv) (r .result) (r .ensures)
-    (i .0 .0) (i .0 .1 .0) (i .1)
+read : (c : Character) → CharacterAt utf16 (now (begun c .args .src)) (loop c .loop .at) (c .item .given .0 .0) (c .item .given .0 .1 .0)
+read c = character-at (c .before .before .before .loop-test .taken) (c .before .before .item-at .ensures) (c .item .given .1)
 
 measure-requires : tie.Need-measure-requires Inv-loop μ-loop
 measure-requires c κs = search needs
@@ -88,24 +50,18 @@ enum-told : tie.Need-enum-told Inv-loop μ-loop
 enum-told c = search needs
 
 returns : tie.Need-returns Inv-loop μ-loop
-returns c =
-    let m = c .before .before in
-    writing-refused (source m) (target m) (text m) (buffer m) (m .measure .result) (answer m) (c .enum-told .given .0 .0) (c .enum-told .given .1)
+returns c = writing-refused (measured (c .before .before)) (c .enum-told .given .1)
 
 buffer-too-short-requires : tie.Need-buffer-too-short-requires Inv-loop μ-loop
 buffer-too-short-requires c κs = search needs
 
 returns-2 : tie.Need-returns-2 Inv-loop μ-loop
 returns-2 c =
-    let u = c .before .before .before .measured .given in
-    let m = c .before .before .before .before .before in
-    writing-short (source m) (target m) (text m) (buffer m) (m .measure .result) (answer m) (u .0 .0) (u .1) (c .buffer-too-short .result) (c .buffer-too-short .ensures) (c .before .if1 .taken)
+    let u = c .before .before .before in
+    writing-short (measured (u .before .before)) (u .measured .given .1) (c .buffer-too-short .ensures) (c .before .if1 .taken)
 
 loop-holds : tie.Need-loop-holds Inv-loop μ-loop
-loop-holds c =
-    let u = c .before .before .measured .given in
-    let m = c .before .before .before .before in
-    writing-begin (source m) (target m) (text m) (buffer m) (m .measure .result) (answer m) (u .0 .0) (u .1) (c .if1 .left)
+loop-holds c = let u = c .before .before in writing-begin (measured (u .before .before)) (u .measured .given .1) (c .if1 .left)
 
 item-at-requires : tie.Need-item-at-requires Inv-loop μ-loop
 item-at-requires c κs = c .loop-test .taken
@@ -124,41 +80,31 @@ same-length c = c .before .before .before .before .before .loop .inv .same
 
 returns-3 : tie.Need-returns-3 Inv-loop μ-loop
 returns-3 c =
-    let r = c .before .before .before .item-at in
-    let l = c .before .before .before .before .before in
-    let m = measured l in
-    let i = c .before .enum-told2 .given in
-    writing-mark (source m) (target m) (text m) (buffer m) (l .loop .at) (c .before .before .before .before .loop-test .taken) (l .loop .written) (l .loop .dst) (l .loop .inv) (r .result) (r .ensures)
-    (i .0 .0) (i .0 .1 .0) (i .1)
+    let i = c .before .before .before in
+    writing-mark (i .before .before .loop .inv) (mark-at (i .before .loop-test .taken) (i .item-at .ensures) (c .before .enum-told2 .given .1))
 
 write-requires : tie.Need-write-requires Inv-loop μ-loop
-write-requires c κs = let h = held (c .before .before) in (small (c .before .before), h .1)
+write-requires c κs = let k = c .before .before in (character-small utf16-laws (read k), writing-held (loop k .loop .inv) (read k) .1)
 
 add-at : tie.Need-add-at Inv-loop μ-loop
-add-at c = omega (arith, onward (c .before .before .before .before .before .before) .1, begun (measured (loop (c .before .before .before .before .before .before))) .good)
+add-at c =
+    let k = c .before .before .before .before .before .before in
+    omega (arith, character-onward (read k) .1, begun k .good)
 
 loop-less : tie.Need-loop-less Inv-loop μ-loop
-loop-less c = omega (arith, onward (c .before .before .before .before .before .before))
+loop-less c = omega (arith, character-onward (read (c .before .before .before .before .before .before)))
 
 loop-again : tie.Need-loop-again Inv-loop μ-loop
 loop-again c =
-    let k = c .before .before .before .before .before .before in
     let w = c .before .before .before .write in
-    let l = loop k in
-    let m = measured l in
-    let r = k .before .before .item-at in
-    let i = k .item .given in
-    writing-more (source m) (target m) (text m) (buffer m) (l .loop .at) (k .before .before .before .loop-test .taken) (l .loop .written) (l .loop .dst) (l .loop .inv) (r .result) (r .ensures)
-    (i .0 .0) (i .0 .1 .0) (i .1) (w .result) _ (w .ensures .0) (w .ensures .1)
+    let k = c .before .before .before .before .before .before in
+    writing-more (loop k .loop .inv) (read k) (w .ensures .0) (w .ensures .1)
 
 same-length-2 : tie.Need-same-length-2 Inv-loop μ-loop
 same-length-2 c = c .before .loop .inv .same
 
 returns-4 : tie.Need-returns-4 Inv-loop μ-loop
-returns-4 c =
-    let l = c .before in
-    let m = measured l in
-    writing-end (source m) (target m) (text m) (buffer m) (l .loop .at) (l .loop .written) (l .loop .dst) (l .loop .inv) (c .loop-test .left)
+returns-4 c = writing-end (c .before .loop .inv) (c .loop-test .left)
 
 pub from-utf16-spec : {M : Type 1} → statement M
 from-utf16-spec =

@@ -1,6 +1,5 @@
 use borrow.Author.Needs.{needs}
-use mathlib.Core.Path.{ap, _∙_}
-use Rattle.jiskromet.specs.Answer.{conversionAnswer}
+use Rattle.jiskromet.proofs.Answers.{measures-in-c}
 use Rattle.jiskromet.proofs.conversions.jk_utf_ebcdic_to_fss_utf_length.Statement.{statement}
 use Rattle.jiskromet.proofs.conversions.jk_utf_ebcdic_to_fss_utf_length.Tie as tie
 
@@ -11,7 +10,7 @@ conversion-answer-requires : tie.Need-conversion-answer-requires
 conversion-answer-requires c κs = search needs
 
 returns : tie.Need-returns
-returns c = c .conversion-answer .ensures ∙ ap conversionAnswer (c .before .utf-ebcdic-to-fss-utf-length .ensures)
+returns c = measures-in-c (c .conversion-answer .ensures) (c .before .utf-ebcdic-to-fss-utf-length .ensures)
 
 pub jk-utf-ebcdic-to-fss-utf-length-spec : {M : Type 1} → statement M
 jk-utf-ebcdic-to-fss-utf-length-spec = tie.close (tie.spec utf-ebcdic-to-fss-utf-length-requires conversion-answer-requires returns)

@@ -1,17 +1,16 @@
-use Prim.Native.Nat.{ℕ, _+_, _-_, _≤_}
-use mathlib.Core.Path.{_≡_, sym, _∙_}
-use mathlib.Core.List.{List}
+use Prim.Native.Nat.{_+_, _-_}
+use mathlib.Core.Path.{ap, _∙_}
 use native.Mathlib.Omega.{arith}
 use borrow.Author.Needs.{needs}
 use lib.ListN.{length}
 use denote.Ref.{now}
-use Rattle.forms.specs.Form.{Form}
 use Rattle.forms.specs.Forms.{ucs4}
 use Rattle.laws.proofs.FourForms.{ucs4-laws}
-use Rattle.laws.proofs.Progress.{character-small}
+use Rattle.forms.specs.Conversion.{refusalAt}
+use Rattle.laws.proofs.Progress.{CharacterAt, character-at, mark-at, character-small, character-onward}
 use Rattle.encoder.specs.Target.{targetForm}
 use Rattle.encoder.proofs.Targets.{encode-seven}
-use Rattle.measure.proofs.Measuring.{Measuring, measuring-begin, measuring-over, measuring-end, measuring-mark, measuring-unheld, measuring-more, measuring-onward}
+use Rattle.measure.proofs.Measuring.{Measuring, measuring-begin, measuring-over, measuring-end, measuring-mark, measuring-unheld, measuring-more}
 use Rattle.measure.proofs.ucs4.measure.Statement.{statement}
 use Rattle.measure.proofs.ucs4.measure.Tie as tie
 
@@ -21,62 +20,37 @@ Inv-loop target src at₀ units₀ at units = Measuring ucs4 (targetForm target)
 abbrev μ-loop : tie.MeasureT-loop
 μ-loop target src at₀ units₀ at units = length src - at
 
--- the text, its form and the target, at the function's start
-abbrev Begun : Type 0
-Begun = tie.Start Inv-loop μ-loop
+-- behind the character of an item
+abbrev Character : Type 0
+Character = tie.After-item Inv-loop μ-loop
 
-abbrev source : Begun → Form
-source b = ucs4
+abbrev loop : Character → tie.At-loop Inv-loop μ-loop
+loop c = c .before .before .before .before
 
-abbrev target : Begun → Form
-target b = targetForm (b .args .target)
+abbrev start : Character → tie.Start Inv-loop μ-loop
+start c = loop c .before .before .before
 
-abbrev text : Begun → List ℕ
-text b = now (b .args .src)
+read : (c : Character) → CharacterAt ucs4 (now (start c .args .src)) (loop c .loop .at) (c .item .given .0 .0) (c .item .given .0 .1 .0)
+read c = character-at (c .before .before .before .loop-test .taken) (c .before .before .item-at .ensures) (c .item .given .1)
 
--- behind the item and its length in the target
-abbrev Measured : Type 0
-Measured = tie.After-encoded-length Inv-loop μ-loop
+-- behind a turn of the loop
+abbrev Turned : Type 0
+Turned = tie.Else2 Inv-loop μ-loop
 
-abbrev loop : Measured → tie.At-loop Inv-loop μ-loop
-loop c = c .before .before .before .before .before .before
-
-abbrev begun : tie.At-loop Inv-loop μ-loop → Begun
-begun l = l .before .before .before
-
-more : (c : tie.Else2 Inv-loop μ-loop) → let l = loop (c .before) in
-    Measuring (source (begun l)) (target (begun l)) (text (begun l)) (l .loop .at + c .before .before .before .item .given .0 .1 .0 .length) (l .loop .units + c .before .encoded-length .result)
-more c =
-    let m = c .before in
-    let l = loop m in
-    let b = begun l in
-    let i = m .before .before .item .given in
-    let r = m .before .before .before .before .item-at in
-    measuring-more (source b) (target b) (text b) (l .loop .at) (m .before .before .before .before .before .loop-test .taken) (l .loop .units) (l .loop .inv) (r .result) (r .ensures)
-    (i .0 .0) (i .0 .1 .0) (i .1) (m .encoded-length .result) (m .encoded-length .ensures) (c .if2 .left)
-    (omega (arith, m .encoded-length .ensures, encode-seven (b .args .target) (i .0 .0)))
-
-onward : (c : tie.Else2 Inv-loop μ-loop) → let l = loop (c .before) in let i = c .before .before .before .item .given in
-    (1 ≤ i .0 .1 .0 .length) × (l .loop .at + i .0 .1 .0 .length ≤ length (text (begun l)))
-onward c =
-    let m = c .before in
-    let l = loop m in
-    let b = begun l in
-    let i = m .before .before .item .given in
-    let r = m .before .before .before .before .item-at in
-    measuring-onward (source b) (target b) (text b) (l .loop .at) (m .before .before .before .before .before .loop-test .taken) (l .loop .units) (l .loop .inv) (r .result) (r .ensures)
-    (i .0 .0) (i .0 .1 .0) (i .1) (m .encoded-length .result) (m .encoded-length .ensures)
+turned : (e : Turned) → let c = e .before .before .before in
+    Measuring ucs4 (targetForm (start c .args .target)) (now (start c .args .src)) (loop c .loop .at + c .item .given .0 .1 .0 .length) (loop c .loop .units + e .before .encoded-length .result)
+turned e =
+    let c = e .before .before .before in
+    measuring-more (loop c .loop .inv) (read c) (e .before .encoded-length .ensures) (e .if2 .left) (encode-seven (start c .args .target) (c .item .given .0 .0))
 
 source-too-long-requires : tie.Need-source-too-long-requires Inv-loop μ-loop
 source-too-long-requires c κs = search needs
 
 returns : tie.Need-returns Inv-loop μ-loop
-returns c =
-    let b = c .before .before .before in
-    measuring-over (source b) (target b) (text b) (c .source-too-long .result) (c .source-too-long .ensures) (c .before .if1 .taken)
+returns c = measuring-over (c .source-too-long .ensures) (c .before .if1 .taken)
 
 loop-holds : tie.Need-loop-holds Inv-loop μ-loop
-loop-holds c = let b = c .before .before in measuring-begin (source b) (target b) (text b) (c .if1 .left)
+loop-holds c = measuring-begin (c .if1 .left)
 
 item-at-requires : tie.Need-item-at-requires Inv-loop μ-loop
 item-at-requires c κs = c .loop-test .taken
@@ -92,49 +66,34 @@ refusal-requires c κs = search needs
 
 returns-2 : tie.Need-returns-2 Inv-loop μ-loop
 returns-2 c =
-    let r = c .before .before .before .item-at in
-    let l = c .before .before .before .before .before in
-    let b = begun l in
-    let i = c .before .enum-told .given in
-    measuring-mark (source b) (target b) (text b) (l .loop .at) (c .before .before .before .before .loop-test .taken) (l .loop .units) (l .loop .inv) (r .result) (r .ensures)
-    (i .0 .0) (i .0 .1 .0) (c .refusal .result) (i .1) (c .refusal .ensures)
+    let i = c .before .before .before in
+    measuring-mark (i .before .before .loop .inv) (mark-at (i .before .loop-test .taken) (i .item-at .ensures) (c .before .enum-told .given .1)) (c .refusal .ensures ∙ ap refusalAt (c .before .enum-told .given .1))
 
 encoded-length-requires : tie.Need-encoded-length-requires Inv-loop μ-loop
-encoded-length-requires c κs =
-    let l = c .before .before .before .before .before in
-    let i = c .before .item .given in
-    character-small (source (begun l)) ucs4-laws (text (begun l)) (l .loop .at) (i .0 .0) (i .0 .1 .0) (sym (i .1) ∙ c .before .before .before .item-at .ensures)
+encoded-length-requires c κs = character-small ucs4-laws (read (c .before))
 
 refusal-requires-2 : tie.Need-refusal-requires-2 Inv-loop μ-loop
 refusal-requires-2 c κs = search needs
 
 returns-3 : tie.Need-returns-3 Inv-loop μ-loop
-returns-3 c =
-    let m = c .before .before in
-    let l = loop m in
-    let b = begun l in
-    let i = m .before .before .item .given in
-    let r = m .before .before .before .before .item-at in
-    measuring-unheld (source b) (target b) (text b) (l .loop .at) (m .before .before .before .before .before .loop-test .taken) (l .loop .units) (l .loop .inv) (r .result) (r .ensures)
-    (i .0 .0) (i .0 .1 .0) (i .1) (m .encoded-length .result) (m .encoded-length .ensures) (c .refusal2 .result) (c .before .if2 .taken) (c .refusal2 .ensures)
+returns-3 e =
+    let c = e .before .before .before .before in
+    measuring-unheld (loop c .loop .inv) (read c) (e .before .before .encoded-length .ensures) (e .before .if2 .taken) (e .refusal2 .ensures)
 
 add-units : tie.Need-add-units Inv-loop μ-loop
-add-units c = omega (arith, more c .small, more c .progress .within, more c .short)
+add-units c = omega (arith, turned c .small, turned c .progress .within, turned c .short)
 
 add-at : tie.Need-add-at Inv-loop μ-loop
-add-at c = omega (arith, onward (c .before) .1, more (c .before) .short)
+add-at c = omega (arith, turned (c .before) .progress .within, turned (c .before) .short)
 
 loop-less : tie.Need-loop-less Inv-loop μ-loop
-loop-less c = omega (arith, onward (c .before))
+loop-less c = omega (arith, character-onward (read (c .before .before .before .before)))
 
 loop-again : tie.Need-loop-again Inv-loop μ-loop
-loop-again c = more (c .before)
+loop-again c = turned (c .before)
 
 returns-4 : tie.Need-returns-4 Inv-loop μ-loop
-returns-4 c =
-    let l = c .before in
-    let b = begun l in
-    measuring-end (source b) (target b) (text b) (l .loop .at) (l .loop .units) (l .loop .inv) (c .loop-test .left)
+returns-4 c = measuring-end (c .before .loop .inv) (c .loop-test .left)
 
 pub measure-spec : {M : Type 1} → statement M
 measure-spec =
