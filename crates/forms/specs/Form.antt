@@ -135,6 +135,16 @@ unless (some f) e = []
 abbrev pub encode : Form → ℕ → List ℕ
 encode F v = unless (F .excluded v) (F .shortest v)
 
+-- the legal encodings of values, one behind the other
+abbrev pub encodeAll : Form → List ℕ → List ℕ
+encodeAll F [] = []
+encodeAll F (v ∷ vs) = encode F v ++ encodeAll F vs
+
+-- each of the values has one
+abbrev pub AllEncodable : Form → List ℕ → Type 0
+AllEncodable F [] = Unit {0}
+AllEncodable F (v ∷ vs) = (encode F v ≢ []) × AllEncodable F vs
+
 -- document 01's good character: the legal encoding of some value
 pub record WellFormed (F : Form) (e : List ℕ) : Type 0 where
   pub value : ℕ

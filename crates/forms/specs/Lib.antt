@@ -7,3 +7,6 @@ pub mod LayoutTable
 pub mod Flags
 pub mod Buffer
 pub mod Conversion
+pub mod Lossy
+pub mod Demand3
+pub mod Start

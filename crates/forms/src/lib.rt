@@ -1,7 +1,8 @@
 // The types that every call speaks in: faults, items and refusals.
 //
 // The rules of document 01 are the definitions of `specs/`: `Fault` the fault numbers, `Form` how a text falls into items,
-// `Layout`, `Exchange` and `Forms` the four forms, `Flags` the shadow flags, `Buffer` result buffers, `Conversion` strict conversion.
+// `Layout`, `Exchange` and `Forms` the four forms, `Flags` the shadow flags, `Buffer` result buffers, `Conversion` strict conversion, `Lossy`
+// and `Demand3` lossy decoding, `Start` the start of an item.
 ghost use mathlib.Core.Path.{_≡_};
 ghost use Rattle.forms.specs.Fault.{numberOf, refusal};
 ghost use Rattle.forms.specs.Form.{spanOf};
@@ -109,6 +110,24 @@ impl Refusal {
             offset,
         }
     }
+}
+
+// How many items a text has, and how many of them are marks.
+pub struct Counts {
+    pub items: usize,
+    pub marks: usize,
+}
+
+// The answer of a lossy decoding.
+pub enum Decoding {
+    Decoded(Counts),
+    Refused(Refusal),
+}
+
+// The answer of a start finder: the offset at which the item starts, or the refusal.
+pub enum Start {
+    At(usize),
+    Refused(Refusal),
 }
 
 // The answer of a strict conversion or of its measure: the code units written or needed, or the refusal.

@@ -15,20 +15,10 @@ use Rattle.forms.specs.declared.Item.{Item}
 use Rattle.forms.specs.declared.Item.the-variants.{Character, Mark}
 use Rattle.forms.specs.declared.Span.{Span}
 use Rattle.forms.specs.declared.Refusal.{Refusal}
-use Rattle.forms.specs.Form.{Role, lead, trailing, invalid, Sequence, sequence, units, size, Form, asked, firstOf, sequencesAfter, sequences, Content, character, mark, fullContent, contentAs, content, span, withSpan, itemOf, itemsFrom, items, unless, encode}
+use Rattle.forms.specs.Form.{Role, lead, trailing, invalid, Sequence, sequence, units, size, Form, asked, firstOf, sequencesAfter, sequences, Content, character, mark, fullContent, contentAs, content, span, withSpan, itemOf, itemsFrom, items, unless, encode, encodeAll, AllEncodable}
 use Rattle.forms.specs.Conversion.{Outcome, converted, refused, encoding, refusalAt, prepend, put, convertItems}
 use Rattle.laws.proofs.Sequences.{Full, AllTrailing, joined, taken-trailing, sequences-full, sequences-joined}
 use Rattle.laws.proofs.FormLaws.{Reads, Laws}
-
--- the legal encodings of values, one behind the other
-abbrev pub encodeAll : Form → List ℕ → List ℕ
-encodeAll F [] = []
-encodeAll F (v ∷ vs) = encode F v ++ encodeAll F vs
-
--- each of the values has one
-abbrev pub AllEncodable : Form → List ℕ → Type 0
-AllEncodable F [] = Unit {0}
-AllEncodable F (v ∷ vs) = (encode F v ≢ []) × AllEncodable F vs
 
 -- the characters of values, one behind the other from p on
 abbrev pub charactersFrom : Form → ℕ → List ℕ → List Item

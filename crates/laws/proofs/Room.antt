@@ -13,7 +13,7 @@ use lib.ListN.{length, length-append, length-map}
 use Rattle.forms.specs.declared.Fault.{Fault}
 use Rattle.forms.specs.declared.Conversion.{Conversion}
 use Rattle.forms.specs.declared.Conversion.the-variants.{Units}
-use Rattle.forms.specs.Form.{Form, unless, encode}
+use Rattle.forms.specs.Form.{Form, unless, encode, encodeAll, AllEncodable}
 use Rattle.forms.specs.Layout.{Layout, rowLimit, lowestOf, formOf}
 use Rattle.forms.specs.Exchange.{i8Of, ebcdicOf}
 use Rattle.forms.specs.Forms.{byteLayout, utf16Layout, ucs4Layout, fssUtf, i8, utfEbcdic, utf16, ucs4}
@@ -23,7 +23,7 @@ use Rattle.laws.proofs.FormLaws.{Laws}
 use Rattle.laws.proofs.LayoutLaws.{Fit, Spelling, spelling, length-shortest}
 use Rattle.laws.proofs.Exchanged.{encode-from}
 use Rattle.laws.proofs.FourForms.{fssUtf-fits, i8-fits, utf16-fits, ucs4-fits}
-use Rattle.laws.proofs.Characters.{encodeAll, AllEncodable, Accepted, accepted}
+use Rattle.laws.proofs.Characters.{Accepted, accepted}
 use Rattle.laws.proofs.Answers.{within-items, measured-too}
 
 -- the values that a form writes with so many units lie in that row of its layout

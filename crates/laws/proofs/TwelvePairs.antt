@@ -13,12 +13,12 @@ use Rattle.forms.specs.declared.Fault.{Fault}
 use Rattle.forms.specs.declared.Fault.the-variants.{Unrepresentable, ValueTooLarge}
 use Rattle.forms.specs.declared.Conversion.the-variants.{Units}
 use Rattle.forms.specs.Fault.{limit}
-use Rattle.forms.specs.Form.{Form}
+use Rattle.forms.specs.Form.{Form, encodeAll, AllEncodable}
 use Rattle.forms.specs.Layout.{Layout}
 use Rattle.forms.specs.Forms.{byteLayout, isSurrogate, utf16Layout, ucs4Layout, fssUtf, utfEbcdic, utf16, ucs4}
 use Rattle.forms.specs.Conversion.{converted, outcome, Converts}
 use Rattle.laws.proofs.FormLaws.{Laws}
-use Rattle.laws.proofs.Characters.{encodeAll, AllEncodable, Accepted, accepted, characters-accepted}
+use Rattle.laws.proofs.Characters.{Accepted, accepted, characters-accepted}
 use Rattle.laws.proofs.Answers.{within-items, converts-units}
 use Rattle.laws.proofs.FourForms.{fssUtf-laws, utfEbcdic-laws, utf16-laws, ucs4-laws}
 use Rattle.laws.proofs.Exactness.{OwnFault, OwnFaults, other-number, Exact, exact, ExactLength, exact-length}
