@@ -18,6 +18,9 @@ pub mod Outcomes
 pub mod Progress
 pub mod Exactness
 pub mod Answers
+pub mod Cells
+pub mod ThreeParts
+pub mod LossyCalls
 pub mod Room
 pub mod RoundTrip
 pub mod TwelvePairs
