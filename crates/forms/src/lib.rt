@@ -7,6 +7,7 @@ ghost use mathlib.Core.Path.{_≡_};
 ghost use Rattle.forms.specs.Fault.{numberOf, refusal};
 ghost use Rattle.forms.specs.Form.{spanOf};
 ghost use Rattle.forms.specs.Conversion.{refusalAt};
+ghost use Rattle.forms.specs.Lossy.{valueOf, markCount};
 
 // Document 01's faults, in the order of their numbers.
 pub enum Fault {
@@ -57,6 +58,26 @@ impl Item {
         match self {
             Item::Character(_, span) => span,
             Item::Mark(_, span) => span,
+        }
+    }
+
+    // What a lossy decoding shows of the item: a character's value, FFFFFFFF for a mark.
+    pub fn value(self) -> u32
+        ensures { λ r. ⌜ r ≡ valueOf self ⌝ }
+    {
+        match self {
+            Item::Character(value, _) => value,
+            Item::Mark(_, _) => 0xFFFFFFFF,
+        }
+    }
+
+    // 1 for a mark, 0 for a character.
+    pub fn mark_count(self) -> usize
+        ensures { λ r. ⌜ r ≡ markCount self ⌝ }
+    {
+        match self {
+            Item::Character(_, _) => 0,
+            Item::Mark(_, _) => 1,
         }
     }
 

@@ -12,6 +12,7 @@ pub mod Reading
 pub mod Spans
 pub mod LayoutTable
 pub mod Items
+pub mod ReadItems
 pub mod Characters
 pub mod Buffers
 pub mod Outcomes

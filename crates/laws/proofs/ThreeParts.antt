@@ -36,7 +36,7 @@ module _ (F : Form) where
   characters-count p [] = refl
   characters-count p (v ∷ vs) = ap suc (characters-count (p + length (encode F v)) vs)
 
-marks-append : (is js : List Item) → marks (is ++ js) ≡ marks is + marks js
+pub marks-append : (is js : List Item) → marks (is ++ js) ≡ marks is + marks js
 marks-append [] js = sym (zero-add (marks js))
 marks-append (i ∷ is) js = ap (λ (n : ℕ). markCount i + n) (marks-append is js) ∙ sym (add-assoc (markCount i) (marks is) (marks js))
 

@@ -9,12 +9,13 @@ use Rattle.forms.specs.declared.Item.{Item}
 use Rattle.forms.specs.declared.Item.the-variants.{Character, Mark}
 use Rattle.forms.specs.Form.{Form, size, spanOf, itemOf, items}
 use Rattle.forms.specs.Forms.{fssUtf}
+use Rattle.forms.specs.Lossy.{markCount, marks}
 use Rattle.forms.specs.Buffer.{withUnits, Holds}
 use Rattle.laws.proofs.Spans.{size-longest}
 use Rattle.laws.proofs.Items.{itemsOnward, sequenceAt, items-end, items-step, length-at, offset-at, within-at}
 use Rattle.laws.proofs.FourForms.{fssUtf-laws}
 use Rattle.items.specs.ItemAt.{itemAt}
-use Rattle.lines.specs.Listing.{header, line, lines, markCount, marks, total, listingOf}
+use Rattle.lines.specs.Listing.{header, line, lines, total, listingOf}
 use Rattle.laws.proofs.Buffers.{holds-first, holds-more}
 
 -- since the loop began at (written₀, out₀) the lines `added` were put in; they and those of the items from `at` on are all the lines

@@ -8,6 +8,7 @@ use Rattle.forms.specs.declared.Span.{Span}
 use Rattle.forms.specs.Fault.{numberOf}
 use Rattle.forms.specs.Form.{spanOf, items}
 use Rattle.forms.specs.Forms.{fssUtf}
+use Rattle.forms.specs.Lossy.{marks}
 use Rattle.lines.specs.Numerals.{decimal, hex}
 
 -- "START LENGTH READ", line feed
@@ -26,14 +27,6 @@ line i = decimal ((spanOf i) .offset) ++ (0x20 ∷ (decimal ((spanOf i) .length)
 abbrev pub lines : List Item → List ℕ
 lines [] = []
 lines (i ∷ is) = line i ++ lines is
-
-abbrev pub markCount : Item → ℕ
-markCount (Character v p) = 0
-markCount (Mark f p) = 1
-
-abbrev pub marks : List Item → ℕ
-marks [] = 0
-marks (i ∷ is) = markCount i + marks is
 
 -- "items " and "faults " with their counts; line feed
 abbrev pub total : ℕ → ℕ → List ℕ

@@ -11,7 +11,7 @@ ghost use Rattle.forms.specs.Form.{spanOf, items};
 ghost use Rattle.forms.specs.Forms.{fssUtf};
 ghost use Rattle.forms.specs.Buffer.{withUnits, Holds};
 ghost use Rattle.lines.specs.Line.{textOf};
-ghost use Rattle.lines.specs.Listing.{header, line, total, markCount, listingOf, listing};
+ghost use Rattle.lines.specs.Listing.{header, line, total, listingOf, listing};
 
 // The listing of the first 4,096 bytes of a text. A buffer of 73,769 bytes holds the longest: a header of 18, 4,096 lines of at most 18
 // and a total of at most 23.
@@ -37,7 +37,7 @@ fn list(text: &[u8], out: &mut [u8]) -> usize
         let span = item.span();
         written = put(out, written, item_line(item));
         count += 1;
-        marks += mark_count(item);
+        marks += item.mark_count();
         at += span.length;
     }
     put(out, written, total_line(count, marks))
@@ -92,13 +92,4 @@ fn total_line(count: usize, marks: usize) -> Line
         .push_text(b" faults ")
         .push_decimal(marks)
         .push(b'\n')
-}
-
-fn mark_count(item: Item) -> usize
-    ensures { λ r. ⌜ r ≡ markCount item ⌝ }
-{
-    match item {
-        Item::Character(_, _) => 0,
-        Item::Mark(_, _) => 1,
-    }
 }

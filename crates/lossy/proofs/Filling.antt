@@ -1,0 +1,142 @@
+-- The loops of a lossy decoding: the count of items, and the two buffers filled item by item.
+use Prim.Native.Nat.{ℕ, _+_, _≤_, _<_}
+use mathlib.Core.Path.{_≡_, refl, sym, ap, _∙_}
+use mathlib.Core.List.{List, [], _∷_, _++_, map, map-append}
+use native.Mathlib.Omega.{arith}
+use native.Mathlib.Nat.{add-zero, add-assoc}
+use native.Mathlib.Numerals.{add-one}
+use lib.ListN.{length, getD, drop, set, length-append, length-map, length-set}
+use lib.Seq.{drop-cons, set-at, append-snoc, length-front}
+use Rattle.forms.specs.declared.Fault.the-variants.{SourceTooLong, BufferTooShort}
+use Rattle.forms.specs.declared.Span.{Span}
+use Rattle.forms.specs.declared.Item.{Item}
+use Rattle.forms.specs.declared.Item.the-variants.{Character, Mark}
+use Rattle.forms.specs.declared.Refusal.{Refusal}
+use Rattle.forms.specs.declared.Counts.{Counts}
+use Rattle.forms.specs.declared.Decoding.the-variants.{Decoded, Refused}
+use Rattle.forms.specs.Fault.{limit, refusal}
+use Rattle.forms.specs.Form.{Form, spanOf, items}
+use Rattle.forms.specs.Lossy.{valueOf, offsetOf, markCount, marks, Outcome, decoded, refused, lossy, counts, answerOf, valuesIn, startsIn}
+use Rattle.forms.specs.Demand3.{DecodesLossy}
+use Rattle.laws.proofs.FormLaws.{Laws}
+use Rattle.laws.proofs.ReadItems.{ItemAt, ReadTo, read-begin, read-more, read-next, read-end, item-offset}
+use Rattle.laws.proofs.ThreeParts.{marks-append}
+use Rattle.laws.proofs.LossyCalls.{lossy-over, lossy-short-values, lossy-short-starts, lossy-all, promise}
+
+-- so many items before `at`
+pub record Counting (F : Form) (s : List ℕ) (at n : ℕ) : Type 0 where
+  pub done : List Item
+  pub read : ReadTo F s at done
+  pub counted : n ≡ length done
+
+module _ {F : Form} {s : List ℕ} where
+  pub counting-begin : Counting F s 0 0
+  counting-begin = record { done = []; read = read-begin F s; counted = refl }
+
+  module _ {p n : ℕ} where
+    pub counting-more : {i : Item} {q : Span} → Counting F s p n → ItemAt F s p i q → Counting F s (p + q .length) (n + 1)
+    counting-more {i} c a =
+        record { done = c .done ++ (i ∷ []); read = read-more (c .read) a; counted = omega (arith, c .counted, length-append (c .done) (i ∷ [])) }
+
+    pub counting-end : Counting F s p n → length s ≤ p → n ≡ length (items F s)
+    counting-end c h = c .counted ∙ sym (ap length (read-end (c .read) h))
+
+pub mark-most : (i : Item) → markCount i ≤ 1
+mark-most (Character v p) = omega arith
+mark-most (Mark f p) = omega arith
+
+-- one cell more at the front
+fill : (xs d : List ℕ) (n a : ℕ) → length xs ≡ n → n < length d → set (xs ++ drop n d) n a ≡ (xs ++ (a ∷ [])) ++ drop (n + 1) d
+fill xs d n a e h =
+    ap (λ (x : List ℕ). set (xs ++ x) n a) (drop-cons d n 0 h ∙ ap {B = List ℕ} (λ (k : ℕ). getD d n 0 ∷ drop k d) (sym (add-one n)))
+    ∙ set-at xs (getD d n 0) (drop (n + 1) d) a n e
+    ∙ sym (append-snoc xs a (drop (n + 1) d))
+
+-- the items before `at` stand in both buffers, and there is room for all
+pub record Filling (F : Form) (s d e : List ℕ) (at n m : ℕ) (o p : List ℕ) : Type 0 where
+  pub done : List Item
+  pub read : ReadTo F s at done
+  pub counted : n ≡ length done
+  pub marked : m ≡ marks done
+  pub fewer : m ≤ n
+  pub values : o ≡ map valueOf done ++ drop n d
+  pub starts : p ≡ map offsetOf done ++ drop n e
+  pub same-values : length o ≡ length d
+  pub same-starts : length p ≡ length e
+  pub short : length s ≤ limit
+  pub room-values : length (items F s) ≤ length d
+  pub room-starts : length (items F s) ≤ length e
+
+module _ {F : Form} {s d e : List ℕ} where
+  module _ {r : Refusal} (laws : Laws F) where
+    refusing : (q : Refusal) → lossy F s (length d) (length e) ≡ refused q → r ≡ q → DecodesLossy F s d e (Refused r) d e
+    refusing q x z =
+        promise F laws s d e (Refused r) d e (ap Refused z ∙ sym (ap answerOf x)) (sym (ap (λ (y : Outcome). valuesIn y d) x)) (sym (ap (λ (y : Outcome). startsIn y e) x))
+
+    pub filling-over : r ≡ refusal SourceTooLong 0 → limit < length s → DecodesLossy F s d e (Refused r) d e
+    filling-over z h = refusing (refusal SourceTooLong 0) (lossy-over F s (length d) (length e) h) z
+
+    pub filling-short-values : {n : ℕ} → r ≡ refusal BufferTooShort 0 → length s ≤ limit → n ≡ length (items F s) → length d < n → DecodesLossy F s d e (Refused r) d e
+    filling-short-values z h c l = refusing (refusal BufferTooShort 0) (lossy-short-values F s (length d) (length e) h (omega arith)) z
+
+    pub filling-short-starts : {n : ℕ} → r ≡ refusal BufferTooShort 0 → length s ≤ limit → n ≡ length (items F s) → length e < n → DecodesLossy F s d e (Refused r) d e
+    filling-short-starts z h c l = refusing (refusal BufferTooShort 0) (lossy-short-starts F s (length d) (length e) h (omega arith)) z
+
+  pub filling-begin : {n : ℕ} → length s ≤ limit → n ≡ length (items F s) → n ≤ length d → n ≤ length e → Filling F s d e 0 0 0 d e
+  filling-begin h c k l =
+      record {
+        done = [];
+        read = read-begin F s;
+        counted = refl;
+        marked = refl;
+        fewer = omega arith;
+        values = refl;
+        starts = refl;
+        same-values = refl;
+        same-starts = refl;
+        short = h;
+        room-values = omega arith;
+        room-starts = omega arith;
+      }
+
+  module _ {at n m : ℕ} {o p : List ℕ} where
+    pub filling-end : Laws F → Filling F s d e at n m o p → length s ≤ at → DecodesLossy F s d e (Decoded (counts n m)) o p
+    filling-end laws f h =
+        let is = read-end (f .read) h in
+        let x = lossy-all F s (length d) (length e) (f .short) (f .room-values) (f .room-starts) ∙ ap decoded is in
+        promise F laws s d e (Decoded (counts n m)) o p
+        (ap (λ (c : ℕ). Decoded (counts c m)) (f .counted) ∙ ap (λ (c : ℕ). Decoded (counts (length (f .done)) c)) (f .marked) ∙ sym (ap answerOf x))
+        (f .values ∙ ap (λ (c : ℕ). map valueOf (f .done) ++ drop c d) (f .counted) ∙ sym (ap (λ (y : Outcome). valuesIn y d) x))
+        (f .starts ∙ ap (λ (c : ℕ). map offsetOf (f .done) ++ drop c e) (f .counted) ∙ sym (ap (λ (y : Outcome). startsIn y e) x))
+
+    module _ {i : Item} {q : Span} where
+      -- the next cells are there
+      pub filling-next : Filling F s d e at n m o p → ItemAt F s at i q → (n < length o) × (n < length p)
+      filling-next f c =
+          (omega (arith, read-next (f .read) c, f .counted, f .room-values, f .same-values), omega (arith, read-next (f .read) c, f .counted, f .room-starts, f .same-starts))
+
+      pub filling-more :
+          {v k : ℕ} → Filling F s d e at n m o p → ItemAt F s at i q → v ≡ valueOf i → k ≡ markCount i
+          → Filling F s d e (at + q .length) (n + 1) (m + k) (set o n v) (set p n at)
+      filling-more {v} {k} f c x y =
+          let h = filling-next f c in
+          record {
+            done = f .done ++ (i ∷ []);
+            read = read-more (f .read) c;
+            counted = omega (arith, f .counted, length-append (f .done) (i ∷ []));
+            marked = ap (λ (z : ℕ). z + k) (f .marked) ∙ rw y (sym (marks-append (f .done) (i ∷ []) ∙ ap (λ (z : ℕ). marks (f .done) + z) (add-zero (markCount i))));
+            fewer = omega (arith, f .fewer, mark-most i, y);
+            values =
+                ap (λ (z : List ℕ). set z n v) (f .values)
+                ∙ fill (map valueOf (f .done)) d n v (length-map (f .done) valueOf ∙ sym (f .counted)) (omega (arith, h .0, f .same-values))
+                ∙ ap (λ (z : List ℕ). z ++ drop (n + 1) d) (ap (λ (z : ℕ). map valueOf (f .done) ++ (z ∷ [])) x ∙ sym (map-append valueOf (f .done) (i ∷ [])));
+            starts =
+                ap (λ (z : List ℕ). set z n at) (f .starts)
+                ∙ fill (map offsetOf (f .done)) e n at (length-map (f .done) offsetOf ∙ sym (f .counted)) (omega (arith, h .1, f .same-starts))
+                ∙ ap (λ (z : List ℕ). z ++ drop (n + 1) e) (ap (λ (z : ℕ). map offsetOf (f .done) ++ (z ∷ [])) (sym (item-offset c)) ∙ sym (map-append offsetOf (f .done) (i ∷ [])));
+            same-values = length-set o n v ∙ f .same-values;
+            same-starts = length-set p n at ∙ f .same-starts;
+            short = f .short;
+            room-values = f .room-values;
+            room-starts = f .room-starts;
+          }

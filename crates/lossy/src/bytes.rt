@@ -1,0 +1,55 @@
+// FSS-UTF and UTF-EBCDIC.
+use forms::Counts;
+use forms::Decoding;
+use forms::Refusal;
+use tables::ByteForm;
+ghost use mathlib.Core.Path.{_≡_};
+ghost use Prim.Native.Nat.{_≤_};
+ghost use lib.ListN.{length};
+ghost use Rattle.forms.specs.Form.{items};
+ghost use Rattle.forms.specs.Demand3.{DecodesLossy};
+ghost use Rattle.tables.specs.ByteForms.{byteForm};
+
+// How many items a text has.
+fn count(form: ByteForm, text: &[u8]) -> usize
+    requires { ⌜ length (now text) ≤ 65536 ⌝ }
+    ensures { λ r. ⌜ r ≡ length (items (byteForm form) (now (text .entry))) ⌝ }
+{
+    let mut at: usize = 0;
+    let mut count: usize = 0;
+    while at < text.len() {
+        let item = items::bytes::item_at(form, text, at);
+        let span = item.span();
+        count += 1;
+        at += span.length;
+    }
+    count
+}
+
+pub fn decode_lossy(form: ByteForm, text: &[u8], values: &mut [u32], starts: &mut [u32]) -> Decoding
+    ensures { λ r. ⌜ DecodesLossy (byteForm form) (now (text .entry)) (now (values .entry)) (now (starts .entry)) r (now (values .exit)) (now (starts .exit)) ⌝ }
+{
+    if 65536 < text.len() {
+        return Decoding::Refused(Refusal::source_too_long());
+    }
+    let needed = count(form, text);
+    if values.len() < needed {
+        return Decoding::Refused(Refusal::buffer_too_short());
+    }
+    if starts.len() < needed {
+        return Decoding::Refused(Refusal::buffer_too_short());
+    }
+    let mut at: usize = 0;
+    let mut items: usize = 0;
+    let mut marks: usize = 0;
+    while at < text.len() {
+        let item = items::bytes::item_at(form, text, at);
+        let span = item.span();
+        values[items] = item.value();
+        starts[items] = at as u32;
+        items += 1;
+        marks += item.mark_count();
+        at += span.length;
+    }
+    Decoding::Decoded(Counts { items, marks })
+}

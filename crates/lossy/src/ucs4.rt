@@ -1,0 +1,54 @@
+// UCS-4.
+use forms::Counts;
+use forms::Decoding;
+use forms::Refusal;
+ghost use mathlib.Core.Path.{_≡_};
+ghost use Prim.Native.Nat.{_≤_};
+ghost use lib.ListN.{length};
+ghost use Rattle.forms.specs.Form.{items};
+ghost use Rattle.forms.specs.Forms.{ucs4};
+ghost use Rattle.forms.specs.Demand3.{DecodesLossy};
+
+// How many items a text has.
+fn count(text: &[u32]) -> usize
+    requires { ⌜ length (now text) ≤ 65536 ⌝ }
+    ensures { λ r. ⌜ r ≡ length (items ucs4 (now (text .entry))) ⌝ }
+{
+    let mut at: usize = 0;
+    let mut count: usize = 0;
+    while at < text.len() {
+        let item = items::ucs4::item_at(text, at);
+        let span = item.span();
+        count += 1;
+        at += span.length;
+    }
+    count
+}
+
+pub fn decode_lossy(text: &[u32], values: &mut [u32], starts: &mut [u32]) -> Decoding
+    ensures { λ r. ⌜ DecodesLossy ucs4 (now (text .entry)) (now (values .entry)) (now (starts .entry)) r (now (values .exit)) (now (starts .exit)) ⌝ }
+{
+    if 65536 < text.len() {
+        return Decoding::Refused(Refusal::source_too_long());
+    }
+    let needed = count(text);
+    if values.len() < needed {
+        return Decoding::Refused(Refusal::buffer_too_short());
+    }
+    if starts.len() < needed {
+        return Decoding::Refused(Refusal::buffer_too_short());
+    }
+    let mut at: usize = 0;
+    let mut items: usize = 0;
+    let mut marks: usize = 0;
+    while at < text.len() {
+        let item = items::ucs4::item_at(text, at);
+        let span = item.span();
+        values[items] = item.value();
+        starts[items] = at as u32;
+        items += 1;
+        marks += item.mark_count();
+        at += span.length;
+    }
+    Decoding::Decoded(Counts { items, marks })
+}
