@@ -1,12 +1,15 @@
--- What a measure and a converter promise, as C sees their answers.
+-- What the calls behind the exports promise, as C sees their answers.
 use Prim.Native.Nat.{ℕ}
 use mathlib.Core.Path.{_≡_, ap, _∙_}
 use mathlib.Core.List.{List}
 use Rattle.forms.specs.declared.Conversion.{Conversion}
 use Rattle.forms.specs.Form.{Form}
 use Rattle.forms.specs.Conversion.{Measures, Converts}
+use Rattle.forms.specs.declared.Decoding.{Decoding}
+use Rattle.forms.specs.Demand3.{DecodesLossy}
 use Rattle.jiskromet.specs.declared.JkConversion.{JkConversion}
-use Rattle.jiskromet.specs.Answer.{conversionAnswer, MeasuresInC, ConvertsInC}
+use Rattle.jiskromet.specs.declared.JkDecoding.{JkDecoding}
+use Rattle.jiskromet.specs.Answer.{conversionAnswer, MeasuresInC, ConvertsInC, decodingAnswer, DecodesLossyInC}
 
 pub measures-in-c : {F G : Form} {s : List ℕ} {a : Conversion} {r : JkConversion} → r ≡ conversionAnswer a → Measures F G s a → MeasuresInC F G s r
 measures-in-c e m = record { answer = e ∙ ap conversionAnswer (m .answer) }
@@ -14,3 +17,7 @@ measures-in-c e m = record { answer = e ∙ ap conversionAnswer (m .answer) }
 pub converts-in-c :
     {F G : Form} {s d : List ℕ} {a : Conversion} {r : JkConversion} {o : List ℕ} → r ≡ conversionAnswer a → Converts F G s d a o → ConvertsInC F G s d r o
 converts-in-c e c = record { answer = e ∙ ap conversionAnswer (c .answer); cells = c .cells }
+
+pub decodes-in-c :
+    {F : Form} {s d e : List ℕ} {a : Decoding} {r : JkDecoding} {o p : List ℕ} → r ≡ decodingAnswer a → DecodesLossy F s d e a o p → DecodesLossyInC F s d e r o p
+decodes-in-c {a = a} e c = record { decoding = a; promised = c; numbers = e }

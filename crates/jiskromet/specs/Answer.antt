@@ -8,13 +8,18 @@ use Rattle.forms.specs.declared.Item.the-variants.{Character, Mark}
 use Rattle.forms.specs.declared.Refusal.{Refusal}
 use Rattle.forms.specs.declared.Conversion.{Conversion}
 use Rattle.forms.specs.declared.Conversion.the-variants.{Units, Refused as NoUnits}
+use Rattle.forms.specs.declared.Counts.{Counts}
+use Rattle.forms.specs.declared.Decoding.{Decoding}
+use Rattle.forms.specs.declared.Decoding.the-variants.{Decoded, Refused as NotDecoded}
 use Rattle.forms.specs.Fault.{numberOf}
 use Rattle.forms.specs.Form.{Form}
 use Rattle.forms.specs.Conversion.{outcome, strict, answerOf, cellsOf}
+use Rattle.forms.specs.Demand3.{DecodesLossy}
 use Rattle.reader.specs.declared.Step.{Step}
 use Rattle.reader.specs.declared.Step.the-variants.{Next, End, Refused}
 use Rattle.jiskromet.specs.declared.JkItem.{JkItem}
 use Rattle.jiskromet.specs.declared.JkConversion.{JkConversion}
+use Rattle.jiskromet.specs.declared.JkDecoding.{JkDecoding}
 
 abbrev pub jkItem : ℕ → ℕ → ℕ → ℕ → ℕ → JkItem
 jkItem k f v p n = record { kind = k; fault = f; value = v; offset = p; length = n }
@@ -50,3 +55,17 @@ pub record MeasuresInC (F G : Form) (s : List ℕ) (r : JkConversion) : Type 0 w
 pub record ConvertsInC (F G : Form) (s d : List ℕ) (r : JkConversion) (o : List ℕ) : Type 0 where
   pub answer : r ≡ conversionAnswer (answerOf (strict F G s (length d)))
   pub cells : o ≡ cellsOf (strict F G s (length d)) d
+
+abbrev pub jkDecoding : ℕ → ℕ → ℕ → ℕ → JkDecoding
+jkDecoding f p n m = record { fault = f; offset = p; items = n; marks = m }
+
+-- a refusal has its number, its place and zero for both counts
+abbrev pub decodingAnswer : Decoding → JkDecoding
+decodingAnswer (Decoded c) = jkDecoding 0 0 (c .items) (c .marks)
+decodingAnswer (NotDecoded r) = jkDecoding (numberOf (r .fault)) (r .offset) 0 0
+
+-- what a lossy decoding promises to C: r has the numbers of a decoding that keeps the promise of the buffers d and e, which became o and p
+pub record DecodesLossyInC (F : Form) (s d e : List ℕ) (r : JkDecoding) (o p : List ℕ) : Type 0 where
+  pub decoding : Decoding
+  pub promised : DecodesLossy F s d e decoding o p
+  pub numbers : r ≡ decodingAnswer decoding

@@ -2,8 +2,10 @@
 //
 // Each answer is a struct of numbers. `specs/Answer` says which number stands for which case.
 pub mod conversions;
+pub mod decodings;
 
 use forms::Conversion;
+use forms::Decoding;
 use forms::Item;
 use forms::Refusal;
 use reader::Cursor;
@@ -11,7 +13,7 @@ use reader::Step;
 ghost use mathlib.Core.Path.{_≡_};
 ghost use Rattle.forms.specs.Forms.{fssUtf, utfEbcdic, utf16, ucs4};
 ghost use Rattle.reader.specs.Step.{cursor, stepAt};
-ghost use Rattle.jiskromet.specs.Answer.{itemAnswer, shownItem, refusedItem, conversionAnswer};
+ghost use Rattle.jiskromet.specs.Answer.{itemAnswer, shownItem, refusedItem, conversionAnswer, decodingAnswer};
 
 #[repr(C)]
 pub struct JkItem {
@@ -132,5 +134,39 @@ fn refused_conversion(refusal: Refusal) -> JkConversion
         fault: forms::number(fault),
         offset: refusal.offset as u64,
         units: 0,
+    }
+}
+
+#[repr(C)]
+pub struct JkDecoding {
+    pub fault: u32,
+    pub offset: u64,
+    pub items: u64,
+    pub marks: u64,
+}
+
+fn decoding_answer(decoding: Decoding) -> JkDecoding
+    ensures { λ r. ⌜ r ≡ decodingAnswer decoding ⌝ }
+{
+    match decoding {
+        Decoding::Decoded(counts) => JkDecoding {
+            fault: 0,
+            offset: 0,
+            items: counts.items as u64,
+            marks: counts.marks as u64,
+        },
+        Decoding::Refused(refusal) => refused_decoding(refusal),
+    }
+}
+
+fn refused_decoding(refusal: Refusal) -> JkDecoding
+    ensures { λ r. ⌜ r ≡ decodingAnswer (Decoding.Refused refusal) ⌝ }
+{
+    let fault = refusal.fault;
+    JkDecoding {
+        fault: forms::number(fault),
+        offset: refusal.offset as u64,
+        items: 0,
+        marks: 0,
     }
 }

@@ -1,0 +1,12 @@
+use borrow.Author.Needs.{needs}
+use Rattle.jiskromet.proofs.refused_decoding.Statement.{statement}
+use Rattle.jiskromet.proofs.refused_decoding.Tie as tie
+
+number-requires : tie.Need-number-requires
+number-requires c κs = search needs
+
+returns : tie.Need-returns
+returns c = rw (c .number .ensures)
+
+pub refused-decoding-spec : {M : Type 1} → statement M
+refused-decoding-spec = tie.close (tie.spec number-requires returns)

@@ -1,0 +1,49 @@
+// The lossy decodings.
+use crate::JkDecoding;
+use crate::decoding_answer;
+ghost use Rattle.forms.specs.Forms.{fssUtf, utfEbcdic, utf16, ucs4};
+ghost use Rattle.jiskromet.specs.Answer.{DecodesLossyInC};
+
+#[no_mangle]
+pub extern "C" fn jk_fss_utf_decode_lossy(
+    text: &[u8],
+    values: &mut [u32],
+    starts: &mut [u32],
+) -> JkDecoding
+    ensures { λ r. ⌜ DecodesLossyInC fssUtf (now (text .entry)) (now (values .entry)) (now (starts .entry)) r (now (values .exit)) (now (starts .exit)) ⌝ }
+{
+    decoding_answer(lossy::fss_utf_decode_lossy(text, values, starts))
+}
+
+#[no_mangle]
+pub extern "C" fn jk_utf_ebcdic_decode_lossy(
+    text: &[u8],
+    values: &mut [u32],
+    starts: &mut [u32],
+) -> JkDecoding
+    ensures { λ r. ⌜ DecodesLossyInC utfEbcdic (now (text .entry)) (now (values .entry)) (now (starts .entry)) r (now (values .exit)) (now (starts .exit)) ⌝ }
+{
+    decoding_answer(lossy::utf_ebcdic_decode_lossy(text, values, starts))
+}
+
+#[no_mangle]
+pub extern "C" fn jk_utf16_decode_lossy(
+    text: &[u16],
+    values: &mut [u32],
+    starts: &mut [u32],
+) -> JkDecoding
+    ensures { λ r. ⌜ DecodesLossyInC utf16 (now (text .entry)) (now (values .entry)) (now (starts .entry)) r (now (values .exit)) (now (starts .exit)) ⌝ }
+{
+    decoding_answer(lossy::utf16_decode_lossy(text, values, starts))
+}
+
+#[no_mangle]
+pub extern "C" fn jk_ucs4_decode_lossy(
+    text: &[u32],
+    values: &mut [u32],
+    starts: &mut [u32],
+) -> JkDecoding
+    ensures { λ r. ⌜ DecodesLossyInC ucs4 (now (text .entry)) (now (values .entry)) (now (starts .entry)) r (now (values .exit)) (now (starts .exit)) ⌝ }
+{
+    decoding_answer(lossy::ucs4_decode_lossy(text, values, starts))
+}
