@@ -109,6 +109,45 @@ jk_conversion jk_ucs4_to_utf_ebcdic_length(const uint32_t *src, size_t src_len);
 jk_conversion jk_ucs4_to_utf16(const uint32_t *src, size_t src_len, uint16_t *dst, size_t dst_len);
 jk_conversion jk_ucs4_to_utf16_length(const uint32_t *src, size_t src_len);
 
+/* The answer of a lossy decoding. */
+typedef struct jk_decoding {
+    uint32_t fault;  /* enum jk_fault: 1, 7, or 0 where there is none */
+    uint64_t offset; /* always 0: faults 1 and 7 concern no item */
+    uint64_t items;  /* how many items the text has; 0 of a refusal */
+    uint64_t marks;  /* how many of them are marks; 0 of a refusal */
+} jk_decoding;
+
+/* The value that stands for a mark. */
+#define JK_MARK_VALUE 0xFFFFFFFFu
+
+/* Lossy decoding: for each item of the text, in order, its value (JK_MARK_VALUE for a mark) at the front of values and
+ * its start at the front of starts; the rest of both is untouched. A text of n code units has at most n items, so n
+ * cells each are room enough; fewer cells than items in either buffer is fault 7. A refusal leaves both buffers as they
+ * were. The three must not overlap. */
+jk_decoding jk_fss_utf_decode_lossy(const uint8_t *text, size_t len, uint32_t *values, size_t values_len,
+                                    uint32_t *starts, size_t starts_len);
+jk_decoding jk_utf_ebcdic_decode_lossy(const uint8_t *text, size_t len, uint32_t *values, size_t values_len,
+                                       uint32_t *starts, size_t starts_len);
+jk_decoding jk_utf16_decode_lossy(const uint16_t *text, size_t len, uint32_t *values, size_t values_len,
+                                  uint32_t *starts, size_t starts_len);
+jk_decoding jk_ucs4_decode_lossy(const uint32_t *text, size_t len, uint32_t *values, size_t values_len,
+                                 uint32_t *starts, size_t starts_len);
+
+/* The answer of a start finder. */
+typedef struct jk_start {
+    uint32_t fault;  /* enum jk_fault: 1, 9, or 0 where there is none */
+    uint64_t offset; /* of fault 9 the asked offset; 0 otherwise */
+    uint64_t start;  /* the offset at which the item starts; 0 of a refusal */
+} jk_start;
+
+/* The start of the item that covers an offset, in the reading of the whole text. It looks back at most five bytes in
+ * FSS-UTF, six in UTF-EBCDIC, one unit in UTF-16, none in UCS-4, however long the text is. An offset at or past the end
+ * is fault 9. */
+jk_start jk_fss_utf_item_start(const uint8_t *text, size_t len, size_t offset);
+jk_start jk_utf_ebcdic_item_start(const uint8_t *text, size_t len, size_t offset);
+jk_start jk_utf16_item_start(const uint16_t *text, size_t len, size_t offset);
+jk_start jk_ucs4_item_start(const uint32_t *text, size_t len, size_t offset);
+
 #ifdef __cplusplus
 }
 #endif

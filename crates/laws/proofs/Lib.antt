@@ -22,6 +22,7 @@ pub mod Answers
 pub mod Cells
 pub mod ThreeParts
 pub mod LossyCalls
+pub mod ExactLossy
 pub mod Room
 pub mod RoundTrip
 pub mod TwelvePairs
