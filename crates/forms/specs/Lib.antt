@@ -8,5 +8,4 @@ pub mod Flags
 pub mod Buffer
 pub mod Conversion
 pub mod Lossy
-pub mod Demand3
 pub mod Start

@@ -2,7 +2,7 @@
 //
 // The rules of document 01 are the definitions of `specs/`: `Fault` the fault numbers, `Form` how a text falls into items,
 // `Layout`, `Exchange` and `Forms` the four forms, `Flags` the shadow flags, `Buffer` result buffers, `Conversion` strict conversion, `Lossy`
-// and `Demand3` lossy decoding, `Start` the start of an item.
+// lossy decoding, `Start` the start of an item.
 ghost use mathlib.Core.Path.{_≡_};
 ghost use Rattle.forms.specs.Fault.{numberOf, refusal};
 ghost use Rattle.forms.specs.Form.{spanOf};

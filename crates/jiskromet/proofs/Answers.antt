@@ -6,7 +6,7 @@ use Rattle.forms.specs.declared.Conversion.{Conversion}
 use Rattle.forms.specs.Form.{Form}
 use Rattle.forms.specs.Conversion.{Measures, Converts}
 use Rattle.forms.specs.declared.Decoding.{Decoding}
-use Rattle.forms.specs.Demand3.{DecodesLossy}
+use Rattle.lossy.specs.Demand3.{DecodesLossy}
 use Rattle.jiskromet.specs.declared.JkConversion.{JkConversion}
 use Rattle.jiskromet.specs.declared.JkDecoding.{JkDecoding}
 use Rattle.jiskromet.specs.Answer.{conversionAnswer, MeasuresInC, ConvertsInC, decodingAnswer, DecodesLossyInC}

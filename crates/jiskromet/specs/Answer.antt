@@ -14,7 +14,7 @@ use Rattle.forms.specs.declared.Decoding.the-variants.{Decoded, Refused as NotD
 use Rattle.forms.specs.Fault.{numberOf}
 use Rattle.forms.specs.Form.{Form}
 use Rattle.forms.specs.Conversion.{outcome, strict, answerOf, cellsOf}
-use Rattle.forms.specs.Demand3.{DecodesLossy}
+use Rattle.lossy.specs.Demand3.{DecodesLossy}
 use Rattle.reader.specs.declared.Step.{Step}
 use Rattle.reader.specs.declared.Step.the-variants.{Next, End, Refused}
 use Rattle.jiskromet.specs.declared.JkItem.{JkItem}

@@ -19,10 +19,6 @@ pub mod Outcomes
 pub mod Progress
 pub mod Exactness
 pub mod Answers
-pub mod Cells
-pub mod ThreeParts
-pub mod LossyCalls
-pub mod ExactLossy
 pub mod Room
 pub mod RoundTrip
 pub mod TwelvePairs

@@ -17,11 +17,11 @@ use Rattle.forms.specs.declared.Decoding.the-variants.{Decoded, Refused}
 use Rattle.forms.specs.Fault.{limit, refusal}
 use Rattle.forms.specs.Form.{Form, spanOf, items}
 use Rattle.forms.specs.Lossy.{valueOf, offsetOf, markCount, marks, Outcome, decoded, refused, lossy, counts, answerOf, valuesIn, startsIn}
-use Rattle.forms.specs.Demand3.{DecodesLossy}
+use Rattle.lossy.specs.Demand3.{DecodesLossy}
 use Rattle.laws.proofs.FormLaws.{Laws}
 use Rattle.laws.proofs.ReadItems.{ItemAt, ReadTo, read-begin, read-more, read-next, read-end, item-offset}
-use Rattle.laws.proofs.ThreeParts.{marks-append}
-use Rattle.laws.proofs.LossyCalls.{lossy-over, lossy-short-values, lossy-short-starts, lossy-all, promise}
+use Rattle.lossy.proofs.ThreeParts.{marks-append}
+use Rattle.lossy.proofs.LossyCalls.{lossy-over, lossy-short-values, lossy-short-starts, lossy-all, promise}
 
 -- so many items before `at`
 pub record Counting (F : Form) (s : List ℕ) (at n : ℕ) : Type 0 where

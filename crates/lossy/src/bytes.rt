@@ -7,7 +7,7 @@ ghost use mathlib.Core.Path.{_≡_};
 ghost use Prim.Native.Nat.{_≤_};
 ghost use lib.ListN.{length};
 ghost use Rattle.forms.specs.Form.{items};
-ghost use Rattle.forms.specs.Demand3.{DecodesLossy};
+ghost use Rattle.lossy.specs.Demand3.{DecodesLossy};
 ghost use Rattle.tables.specs.ByteForms.{byteForm};
 
 // How many items a text has.

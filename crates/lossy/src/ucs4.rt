@@ -7,7 +7,7 @@ ghost use Prim.Native.Nat.{_≤_};
 ghost use lib.ListN.{length};
 ghost use Rattle.forms.specs.Form.{items};
 ghost use Rattle.forms.specs.Forms.{ucs4};
-ghost use Rattle.forms.specs.Demand3.{DecodesLossy};
+ghost use Rattle.lossy.specs.Demand3.{DecodesLossy};
 
 // How many items a text has.
 fn count(text: &[u32]) -> usize

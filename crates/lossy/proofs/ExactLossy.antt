@@ -13,9 +13,9 @@ use Rattle.forms.specs.declared.Refusal.{Refusal}
 use Rattle.forms.specs.Fault.{numberOf, limit, refusal}
 use Rattle.forms.specs.Form.{Sequence, units, Form, sequences, items}
 use Rattle.forms.specs.Lossy.{Outcome, decoded, refused, lossy}
 use Rattle.laws.proofs.Sequences.{joined, sequences-joined}
-use Rattle.laws.proofs.Cells.{length-items}
-use Rattle.laws.proofs.LossyCalls.{lossy-over, lossy-short-values, lossy-short-starts, lossy-all}
+use Rattle.lossy.proofs.Cells.{length-items}
+use Rattle.lossy.proofs.LossyCalls.{lossy-over, lossy-short-values, lossy-short-starts, lossy-all}
 
 -- a text has no more items than units
 joined-most : (cs : List Sequence) → length cs ≤ length (joined cs)

@@ -12,11 +12,11 @@ use Rattle.forms.specs.declared.Item.{Item}
 use Rattle.forms.specs.declared.Item.the-variants.{Character, Mark}
 use Rattle.forms.specs.Form.{Role, lead, Sequence, sequence, units, size, Form, isTrailing, asked, sequences, Content, character, mark, content, span, itemOf, itemsFrom, items, encode, encodeAll, AllEncodable, OccursAt}
 use Rattle.forms.specs.Lossy.{markValue, valueOf, offsetOf, markCount, marks}
-use Rattle.forms.specs.Demand3.{startsFrom, Given, Under, Outside, UnderOneMark, Parts}
+use Rattle.lossy.specs.Demand3.{startsFrom, Given, Under, Outside, UnderOneMark, Parts}
 use Rattle.laws.proofs.Sequences.{NoTrailingFirst, AllTrailing, Full, joined, sequences-border, sequences-full, sequences-joined}
 use Rattle.laws.proofs.FormLaws.{Reads, Laws}
 use Rattle.laws.proofs.Characters.{charactersFrom, reads-item, content-reads, all-taken, AllTaken, read-characters}
-use Rattle.laws.proofs.Cells.{shown, none-there, values, starts, length-items, length-values, length-starts, items-append, values-anywhere, marks-anywhere, starts-moved, value-at, start-at, joined-split, joined-next, Has, has}
+use Rattle.lossy.proofs.Cells.{shown, none-there, values, starts, length-items, length-values, length-starts, items-append, values-anywhere, marks-anywhere, starts-moved, value-at, start-at, joined-split, joined-next, Has, has}
 
 -- what the items of characters show
 module _ (F : Form) where
