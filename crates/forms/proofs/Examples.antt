@@ -14,11 +14,15 @@ use Rattle.forms.specs.declared.Item.the-variants.{Character, Mark}
 use Rattle.forms.specs.declared.Conversion.{Conversion}
 use Rattle.forms.specs.declared.Conversion.the-variants.{Units, Refused}
 use Rattle.forms.specs.Fault.{limit, refusal}
-use Rattle.forms.specs.Form.{units, Form, sequences, span, spanOf, items, encode, WellFormed, OccursAt}
+use Rattle.forms.specs.Form.{units, Form, sequences, span, spanOf, items, encode, encodeAll, AllEncodable, WellFormed, OccursAt}
 use Rattle.forms.specs.Layout.{formOf}
 use Rattle.forms.specs.Exchange.{ebcdicOf}
 use Rattle.forms.specs.Forms.{byteLayout, fssUtf, i8, utfEbcdic, utf16, ucs4}
 use Rattle.forms.specs.Flags.{flagOf}
+use Rattle.forms.specs.declared.Decoding.the-variants as Decoding
+use Rattle.forms.specs.declared.Decoding.the-variants.{Decoded}
+use Rattle.forms.specs.Lossy as Lossy
+use Rattle.forms.specs.Lossy.{lossy, counts, valuesIn, startsIn}
 use Rattle.forms.specs.Buffer.{withUnits, Holds}
 use Rattle.forms.specs.Conversion.{refused, refusalAt, convertItems, outcome, strict, answerOf, cellsOf, Measures, Converts}
 
@@ -204,3 +208,33 @@ no-units F w = w .has (sym (w .same))
 
 pub no-encoding : (F : Form) (s : List ℕ) (p v : ℕ) → encode F v ≡ [] → OccursAt F s p v → ⊥
 no-encoding F s p v e o = o .has e
+
+-- lossy decoding: E2 89 cut short before 41, with room to spare, with just enough, with too little of either, and of no more than the limit
+abbrev cut : List ℕ
+cut = 0x41 ∷ 0xE2 ∷ 0x89 ∷ 0x42 ∷ []
+
+pub decoded-answers :
+    map (λ n. Lossy.answerOf (lossy fssUtf cut 3 n)) (2 ∷ 3 ∷ 4 ∷ []) ≡ Decoding.Refused (refusal BufferTooShort 0) ∷ Decoded (counts 3 1) ∷ Decoded (counts 3 1) ∷ []
+decoded-answers = refl
+
+pub decoded-short : Lossy.answerOf (lossy fssUtf cut 2 3) ≡ Decoding.Refused (refusal BufferTooShort 0)
+decoded-short = refl
+
+pub decoded-values : valuesIn (lossy fssUtf cut 5 5) (1 ∷ 2 ∷ 3 ∷ 4 ∷ 5 ∷ []) ≡ 0x41 ∷ 0xFFFFFFFF ∷ 0x42 ∷ 4 ∷ 5 ∷ []
+decoded-values = refl
+
+pub decoded-starts : startsIn (lossy fssUtf cut 5 5) (1 ∷ 2 ∷ 3 ∷ 4 ∷ 5 ∷ []) ≡ 0 ∷ 1 ∷ 3 ∷ 4 ∷ 5 ∷ []
+decoded-starts = refl
+
+pub refused-buffers : valuesIn (lossy fssUtf cut 2 3) (7 ∷ 8 ∷ []) ++ startsIn (lossy fssUtf cut 2 3) (7 ∷ 8 ∷ 9 ∷ []) ≡ 7 ∷ 8 ∷ 7 ∷ 8 ∷ 9 ∷ []
+refused-buffers = refl
+
+pub decoded-over : (F : Form) (s : List ℕ) (m n : ℕ) → 65537 ≤ length s → Lossy.answerOf (lossy F s m n) ≡ Decoding.Refused (refusal SourceTooLong 0)
+decoded-over F s m n h = rw (lt-ltb limit (length s) h)
+
+-- characters one behind the other
+pub characters : encodeAll fssUtf (0x41 ∷ 0xA9 ∷ []) ≡ 0x41 ∷ 0xC2 ∷ 0xA9 ∷ []
+characters = refl
+
+pub no-surrogate-behind : AllEncodable utf16 (0x41 ∷ 0xD800 ∷ []) → ⊥
+no-surrogate-behind a = a .1 .0 refl
