@@ -1,12 +1,12 @@
 -- Examples that compute, beside the starred points: document 01's limits from both sides, its listing, and one case or more for each rule.
 use Prim.Native.Nat.{ℕ, _≤_}
-use mathlib.Core.Path.{_≡_, refl, sym}
+use mathlib.Core.Path.{_≡_, refl, sym, ap, _∙_}
 use mathlib.Core.Logic.{_≢_}
 use mathlib.Core.List.{List, [], _∷_, _++_, map}
 use mathlib.Core.Option.{Option, none, some}
 use native.Mathlib.Omega.{arith}
 use borrow.Author.Tests.{lt-ltb, le-ltb}
-use lib.ListN.{length}
+use lib.ListN.{length, drop}
 use Rattle.forms.specs.declared.Fault.{Fault}
 use Rattle.forms.specs.declared.Fault.the-variants.{SourceTooLong, MissingTrailing, StrayTrailing, InvalidUnit, Overlong, Unrepresentable, BufferTooShort, ValueTooLarge}
 use Rattle.forms.specs.declared.Item.{Item}
@@ -146,8 +146,11 @@ conversions-hold = refl
 pub length-promise : Measures fssUtf utf16 (0x41 ∷ 0xC2 ∷ 0xA9 ∷ []) (Units 2)
 length-promise = record { answer = refl }
 
-pub promise : Converts fssUtf utf16 (0x41 ∷ []) (7 ∷ 8 ∷ []) (Units 1) (0x41 ∷ 8 ∷ [])
+pub promise : Converts fssUtf utf16 (0xC2 ∷ 0xA9 ∷ []) (7 ∷ 8 ∷ []) (Units 1) (0xA9 ∷ 8 ∷ [])
 promise = record { answer = refl; cells = refl }
+
+pub short-promise : Converts fssUtf utf16 (0x41 ∷ 0x42 ∷ []) (7 ∷ []) (Refused (refusal BufferTooShort 0)) (7 ∷ [])
+short-promise = record { answer = refl; cells = refl }
 
 pub unheld-place : refusalAt (Character 0xD800 (span 5 3)) ≡ refusal Unrepresentable 5
 unheld-place = refl
@@ -158,6 +161,18 @@ put-in = refl
 
 pub held : Holds (1 ∷ 2 ∷ 3 ∷ []) (7 ∷ []) 1 (7 ∷ 2 ∷ 3 ∷ [])
 held = record { counted = refl; cells = refl }
+
+-- a promise settles the answer, and every cell of the buffer
+pub settled : (F G : Form) (s d o p : List ℕ) (q r : Conversion) → Converts F G s d q o → Converts F G s d r p → (q ≡ r) × (o ≡ p)
+settled F G s d o p q r a b = (a .answer ∙ sym (b .answer), a .cells ∙ sym (b .cells))
+
+pub length-settled : (F G : Form) (s : List ℕ) (q r : Conversion) → Measures F G s q → Measures F G s r → q ≡ r
+length-settled F G s q r a b = a .answer ∙ sym (b .answer)
+
+pub held-settled : (d e o p : List ℕ) (m n : ℕ) → Holds d e m o → Holds d e n p → (m ≡ n) × (o ≡ p)
+held-settled d e o p m n a b =
+    let q : m ≡ n = a .counted ∙ sym (b .counted) in
+    (q, a .cells ∙ (ap (λ (k : ℕ). e ++ drop k d) q ∙ sym (b .cells)))
 
 -- "A source of 65,536 units is taken, 65,537 gives 1", before the fault of any unit
 pub at-the-limit : (F G : Form) (s : List ℕ) → length s ≤ 65536 → outcome F G s ≡ convertItems G (items F s)

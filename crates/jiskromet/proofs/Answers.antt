@@ -1,6 +1,6 @@
 -- What the calls behind the exports promise, as C sees their answers.
 use Prim.Native.Nat.{ℕ}
-use mathlib.Core.Path.{_≡_, ap, _∙_}
+use mathlib.Core.Path.{_≡_, sym, ap, _∙_}
 use mathlib.Core.List.{List}
 use Rattle.forms.specs.declared.Conversion.{Conversion}
 use Rattle.forms.specs.Form.{Form}
@@ -13,6 +13,11 @@ use Rattle.jiskromet.specs.Answer.{conversionAnswer, MeasuresInC, Conver
 
 pub measures-in-c : {F G : Form} {s : List ℕ} {a : Conversion} {r : JkConversion} → r ≡ conversionAnswer a → Measures F G s a → MeasuresInC F G s r
 measures-in-c e m = record { answer = e ∙ ap conversionAnswer (m .answer) }
+
+-- it settles the answer, and every cell of the buffer
+pub settled-in-c :
+    {F G : Form} {s d : List ℕ} {q r : JkConversion} {o p : List ℕ} → ConvertsInC F G s d q o → ConvertsInC F G s d r p → (q ≡ r) × (o ≡ p)
+settled-in-c a b = (a .answer ∙ sym (b .answer), a .cells ∙ sym (b .cells))
 
 pub converts-in-c :
     {F G : Form} {s d : List ℕ} {a : Conversion} {r : JkConversion} {o : List ℕ} → r ≡ conversionAnswer a → Converts F G s d a o → ConvertsInC F G s d r o

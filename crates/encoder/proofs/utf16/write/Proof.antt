@@ -63,7 +63,7 @@ mul-dst-3 : tie.Need-mul-dst-3
 mul-dst-3 c = search needs
 
 slice-write-dst-3 : tie.Need-slice-write-dst-3
-slice-write-dst-3 c = omega (arith, ap length (two c), c .before .pre .1, length-set (now (c .before .args .dst)) (c .before .args .at) (0xD800 + (c .before .args .value - 0x10000) / 0x400))
+slice-write-dst-3 c = simp length-set (omega (arith, ap length (two c), c .before .pre .1))
 
 add-result-2 : tie.Need-add-result-2
 add-result-2 c = search needs
