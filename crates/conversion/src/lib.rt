@@ -3,10 +3,6 @@
 // `f_to_g` converts a text into a lent buffer: the code units stand at its front and its rest is untouched, or it is refused and the buffer
 // is as it was. `f_to_g_length` is document 01's measure: how many code units the text has in the other form. `specs/Conversion` of
 // `forms` says what each gives.
-mod to_bytes;
-mod to_ucs4;
-mod to_utf16;
-
 use encoder::Target;
 use forms::Conversion;
 use tables::ByteForm;
@@ -16,7 +12,7 @@ ghost use Rattle.forms.specs.Conversion.{Measures, Converts};
 pub fn fss_utf_to_utf_ebcdic(src: &[u8], dst: &mut [u8]) -> Conversion
     ensures { λ r. ⌜ Converts fssUtf utfEbcdic (now (src .entry)) (now (dst .entry)) r (now (dst .exit)) ⌝ }
 {
-    to_bytes::from_bytes(ByteForm::FssUtf, ByteForm::UtfEbcdic, src, dst)
+    transcode::bytes_to_bytes::convert(ByteForm::FssUtf, ByteForm::UtfEbcdic, src, dst)
 }
 
 pub fn fss_utf_to_utf_ebcdic_length(src: &[u8]) -> Conversion
@@ -28,7 +24,7 @@ pub fn fss_utf_to_utf_ebcdic_length(src: &[u8]) -> Conversion
 pub fn fss_utf_to_utf16(src: &[u8], dst: &mut [u16]) -> Conversion
     ensures { λ r. ⌜ Converts fssUtf utf16 (now (src .entry)) (now (dst .entry)) r (now (dst .exit)) ⌝ }
 {
-    to_utf16::from_bytes(ByteForm::FssUtf, src, dst)
+    transcode::bytes_to_utf16::convert(ByteForm::FssUtf, src, dst)
 }
 
 pub fn fss_utf_to_utf16_length(src: &[u8]) -> Conversion
@@ -40,7 +36,7 @@ pub fn fss_utf_to_utf16_length(src: &[u8]) -> Conversion
 pub fn fss_utf_to_ucs4(src: &[u8], dst: &mut [u32]) -> Conversion
     ensures { λ r. ⌜ Converts fssUtf ucs4 (now (src .entry)) (now (dst .entry)) r (now (dst .exit)) ⌝ }
 {
-    to_ucs4::from_bytes(ByteForm::FssUtf, src, dst)
+    transcode::bytes_to_ucs4::convert(ByteForm::FssUtf, src, dst)
 }
 
 pub fn fss_utf_to_ucs4_length(src: &[u8]) -> Conversion
@@ -52,7 +48,7 @@ pub fn fss_utf_to_ucs4_length(src: &[u8]) -> Conversion
 pub fn utf_ebcdic_to_fss_utf(src: &[u8], dst: &mut [u8]) -> Conversion
     ensures { λ r. ⌜ Converts utfEbcdic fssUtf (now (src .entry)) (now (dst .entry)) r (now (dst .exit)) ⌝ }
 {
-    to_bytes::from_bytes(ByteForm::UtfEbcdic, ByteForm::FssUtf, src, dst)
+    transcode::bytes_to_bytes::convert(ByteForm::UtfEbcdic, ByteForm::FssUtf, src, dst)
 }
 
 pub fn utf_ebcdic_to_fss_utf_length(src: &[u8]) -> Conversion
@@ -64,7 +60,7 @@ pub fn utf_ebcdic_to_fss_utf_length(src: &[u8]) -> Conversion
 pub fn utf_ebcdic_to_utf16(src: &[u8], dst: &mut [u16]) -> Conversion
     ensures { λ r. ⌜ Converts utfEbcdic utf16 (now (src .entry)) (now (dst .entry)) r (now (dst .exit)) ⌝ }
 {
-    to_utf16::from_bytes(ByteForm::UtfEbcdic, src, dst)
+    transcode::bytes_to_utf16::convert(ByteForm::UtfEbcdic, src, dst)
 }
 
 pub fn utf_ebcdic_to_utf16_length(src: &[u8]) -> Conversion
@@ -76,7 +72,7 @@ pub fn utf_ebcdic_to_utf16_length(src: &[u8]) -> Conversion
 pub fn utf_ebcdic_to_ucs4(src: &[u8], dst: &mut [u32]) -> Conversion
     ensures { λ r. ⌜ Converts utfEbcdic ucs4 (now (src .entry)) (now (dst .entry)) r (now (dst .exit)) ⌝ }
 {
-    to_ucs4::from_bytes(ByteForm::UtfEbcdic, src, dst)
+    transcode::bytes_to_ucs4::convert(ByteForm::UtfEbcdic, src, dst)
 }
 
 pub fn utf_ebcdic_to_ucs4_length(src: &[u8]) -> Conversion
@@ -88,7 +84,7 @@ pub fn utf_ebcdic_to_ucs4_length(src: &[u8]) -> Conversion
 pub fn utf16_to_fss_utf(src: &[u16], dst: &mut [u8]) -> Conversion
     ensures { λ r. ⌜ Converts utf16 fssUtf (now (src .entry)) (now (dst .entry)) r (now (dst .exit)) ⌝ }
 {
-    to_bytes::from_utf16(ByteForm::FssUtf, src, dst)
+    transcode::utf16_to_bytes::convert(ByteForm::FssUtf, src, dst)
 }
 
 pub fn utf16_to_fss_utf_length(src: &[u16]) -> Conversion
@@ -100,7 +96,7 @@ pub fn utf16_to_fss_utf_length(src: &[u16]) -> Conversion
 pub fn utf16_to_utf_ebcdic(src: &[u16], dst: &mut [u8]) -> Conversion
     ensures { λ r. ⌜ Converts utf16 utfEbcdic (now (src .entry)) (now (dst .entry)) r (now (dst .exit)) ⌝ }
 {
-    to_bytes::from_utf16(ByteForm::UtfEbcdic, src, dst)
+    transcode::utf16_to_bytes::convert(ByteForm::UtfEbcdic, src, dst)
 }
 
 pub fn utf16_to_utf_ebcdic_length(src: &[u16]) -> Conversion
@@ -112,7 +108,7 @@ pub fn utf16_to_utf_ebcdic_length(src: &[u16]) -> Conversion
 pub fn utf16_to_ucs4(src: &[u16], dst: &mut [u32]) -> Conversion
     ensures { λ r. ⌜ Converts utf16 ucs4 (now (src .entry)) (now (dst .entry)) r (now (dst .exit)) ⌝ }
 {
-    to_ucs4::from_utf16(src, dst)
+    transcode::utf16_to_ucs4::convert(src, dst)
 }
 
 pub fn utf16_to_ucs4_length(src: &[u16]) -> Conversion
@@ -124,7 +120,7 @@ pub fn utf16_to_ucs4_length(src: &[u16]) -> Conversion
 pub fn ucs4_to_fss_utf(src: &[u32], dst: &mut [u8]) -> Conversion
     ensures { λ r. ⌜ Converts ucs4 fssUtf (now (src .entry)) (now (dst .entry)) r (now (dst .exit)) ⌝ }
 {
-    to_bytes::from_ucs4(ByteForm::FssUtf, src, dst)
+    transcode::ucs4_to_bytes::convert(ByteForm::FssUtf, src, dst)
 }
 
 pub fn ucs4_to_fss_utf_length(src: &[u32]) -> Conversion
@@ -136,7 +132,7 @@ pub fn ucs4_to_fss_utf_length(src: &[u32]) -> Conversion
 pub fn ucs4_to_utf_ebcdic(src: &[u32], dst: &mut [u8]) -> Conversion
     ensures { λ r. ⌜ Converts ucs4 utfEbcdic (now (src .entry)) (now (dst .entry)) r (now (dst .exit)) ⌝ }
 {
-    to_bytes::from_ucs4(ByteForm::UtfEbcdic, src, dst)
+    transcode::ucs4_to_bytes::convert(ByteForm::UtfEbcdic, src, dst)
 }
 
 pub fn ucs4_to_utf_ebcdic_length(src: &[u32]) -> Conversion
@@ -148,7 +144,7 @@ pub fn ucs4_to_utf_ebcdic_length(src: &[u32]) -> Conversion
 pub fn ucs4_to_utf16(src: &[u32], dst: &mut [u16]) -> Conversion
     ensures { λ r. ⌜ Converts ucs4 utf16 (now (src .entry)) (now (dst .entry)) r (now (dst .exit)) ⌝ }
 {
-    to_utf16::from_ucs4(src, dst)
+    transcode::ucs4_to_utf16::convert(src, dst)
 }
 
 pub fn ucs4_to_utf16_length(src: &[u32]) -> Conversion
