@@ -1,5 +1,6 @@
 use Prim.Native.Nat.{_-_, _≤_}
 use mathlib.Core.Path.{_≡_}
+use native.Mathlib.Omega.{arith}
 use borrow.Author.Needs.{needs}
 use denote.Ref.{now}
 use Rattle.forms.specs.declared.Start.the-variants.{At}
@@ -11,6 +12,22 @@ use Rattle.finder.proofs.Seeking.{part-start}
 use Rattle.finder.proofs.bytes.item_start.Statement.{statement}
 use Rattle.finder.proofs.bytes.item_start.Tie as tie
 
+source-too-long-requires : tie.Need-source-too-long-requires
+source-too-long-requires c κs = search needs
+
+returns : tie.Need-returns
+returns c =
+    let a = c .before .before .before .args in
+    too-long (byteForm (a .form)) (now (a .text)) (a .offset) (c .source-too-long .ensures) (omega arith)
+
+offset-out-of-range-requires : tie.Need-offset-out-of-range-requires
+offset-out-of-range-requires c κs = search needs
+
+returns-2 : tie.Need-returns-2
+returns-2 c =
+    let a = c .before .before .before .before .args in
+    out-of-range (byteForm (a .form)) (now (a .text)) (a .offset) (c .offset-out-of-range .ensures) (omega arith) (omega arith)
+
 abbrev start : tie.After-distance-back → tie.Start
 start c = c .before .before .before .before .before .before .before
 
@@ -21,23 +38,7 @@ found c =
     let a = start c .args in
     let b = c .before .before in
     part-start (byteForm (a .form)) (byte-laws (a .form)) (now (a .text)) (a .offset) (b .back .result) (b .before .longest .result) (c .distance-back .result)
-    (b .before .before .before .if1 .left) (b .before .before .if2 .left) (b .before .longest .ensures) (b .back .ensures) (c .distance-back .ensures)
-
-source-too-long-requires : tie.Need-source-too-long-requires
-source-too-long-requires c κs = search needs
-
-returns : tie.Need-returns
-returns c =
-    let a = c .before .before .before .args in
-    too-long (byteForm (a .form)) (now (a .text)) (a .offset) (c .source-too-long .ensures) (c .before .if1 .taken)
-
-offset-out-of-range-requires : tie.Need-offset-out-of-range-requires
-offset-out-of-range-requires c κs = search needs
-
-returns-2 : tie.Need-returns-2
-returns-2 c =
-    let a = c .before .before .before .before .args in
-    out-of-range (byteForm (a .form)) (now (a .text)) (a .offset) (c .offset-out-of-range .ensures) (c .before .before .if1 .left) (c .before .if2 .taken)
+    (omega arith) (omega arith) (b .before .longest .ensures) (b .back .ensures) (c .distance-back .ensures)
 
 add-to : tie.Need-add-to
 add-to c = search needs

@@ -1,3 +1,4 @@
+use native.Mathlib.Omega.{arith}
 use borrow.Author.Needs.{needs}
 use denote.Ref.{now}
 use Rattle.forms.specs.Forms.{ucs4}
@@ -12,7 +13,7 @@ source-too-long-requires c κs = search needs
 returns : tie.Need-returns
 returns c =
     let a = c .before .before .before .args in
-    too-long ucs4 (now (a .text)) (a .offset) (c .source-too-long .ensures) (c .before .if1 .taken)
+    too-long ucs4 (now (a .text)) (a .offset) (c .source-too-long .ensures) (omega arith)
 
 offset-out-of-range-requires : tie.Need-offset-out-of-range-requires
 offset-out-of-range-requires c κs = search needs
@@ -20,10 +21,10 @@ offset-out-of-range-requires c κs = search needs
 returns-2 : tie.Need-returns-2
 returns-2 c =
     let a = c .before .before .before .before .args in
-    out-of-range ucs4 (now (a .text)) (a .offset) (c .offset-out-of-range .ensures) (c .before .before .if1 .left) (c .before .if2 .taken)
+    out-of-range ucs4 (now (a .text)) (a .offset) (c .offset-out-of-range .ensures) (omega arith) (omega arith)
 
 returns-3 : tie.Need-returns-3
-returns-3 c = let a = c .before .before .before .args in ucs4-start (now (a .text)) (a .offset) (c .before .if1 .left) (c .if2 .left)
+returns-3 c = let a = c .before .before .before .args in ucs4-start (now (a .text)) (a .offset) (omega arith) (omega arith)
 
 pub item-start-spec : {M : Type 1} → statement M
 item-start-spec =

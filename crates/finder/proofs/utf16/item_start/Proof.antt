@@ -13,7 +13,7 @@ source-too-long-requires c κs = search needs
 returns : tie.Need-returns
 returns c =
     let a = c .before .before .before .args in
-    too-long utf16 (now (a .text)) (a .offset) (c .source-too-long .ensures) (c .before .if1 .taken)
+    too-long utf16 (now (a .text)) (a .offset) (c .source-too-long .ensures) (omega arith)
 
 offset-out-of-range-requires : tie.Need-offset-out-of-range-requires
 offset-out-of-range-requires c κs = search needs
@@ -21,7 +21,7 @@ offset-out-of-range-requires c κs = search needs
 returns-2 : tie.Need-returns-2
 returns-2 c =
     let a = c .before .before .before .before .args in
-    out-of-range utf16 (now (a .text)) (a .offset) (c .offset-out-of-range .ensures) (c .before .before .if1 .left) (c .before .if2 .taken)
+    out-of-range utf16 (now (a .text)) (a .offset) (c .offset-out-of-range .ensures) (omega arith) (omega arith)
 
 mul-unit : tie.Need-mul-unit
 mul-unit c = search needs
@@ -31,21 +31,18 @@ shared-slice-read-unit c = search needs
 
 returns-3 : tie.Need-returns-3
 returns-3 c =
-    let i = c .before .before in
-    let a = i .before .before .before .args in
-    utf16-not-low (now (a .text)) (a .offset) (i .before .if1 .left) (i .if2 .left) (λ d. omega (arith, d .0, c .if3 .taken))
+    let a = c .before .before .before .before .before .args in
+    utf16-not-low (now (a .text)) (a .offset) (omega arith) (omega arith) (λ d. omega arith)
 
 returns-4 : tie.Need-returns-4
 returns-4 c =
-    let i = c .before .before .before in
-    let a = i .before .before .before .args in
-    utf16-not-low (now (a .text)) (a .offset) (i .before .if1 .left) (i .if2 .left) (λ d. omega (arith, d .1, c .if4 .taken))
+    let a = c .before .before .before .before .before .before .args in
+    utf16-not-low (now (a .text)) (a .offset) (omega arith) (omega arith) (λ d. omega arith)
 
 returns-5 : tie.Need-returns-5
 returns-5 c =
-    let i = c .before .before .before .before in
-    let a = i .before .before .before .args in
-    utf16-first (now (a .text)) (a .offset) (i .before .if1 .left) (i .if2 .left) (c .if5 .taken)
+    let a = c .before .before .before .before .before .before .before .args in
+    utf16-first (now (a .text)) (a .offset) (omega arith) (omega arith) (omega arith)
 
 sub-previous : tie.Need-sub-previous
 sub-previous c = search needs
@@ -58,24 +55,21 @@ shared-slice-read-previous c = search needs
 
 returns-6 : tie.Need-returns-6
 returns-6 c =
-    let i = c .before .before .before .before .before .before in
-    let a = i .before .before .before .args in
-    utf16-unpaired (now (a .text)) (a .offset) (i .before .if1 .left) (i .if2 .left) (search needs) (λ d. omega (arith, d .0, c .if6 .taken))
+    let a = c .before .before .before .before .before .before .before .before .before .args in
+    utf16-unpaired (now (a .text)) (a .offset) (omega arith) (omega arith) (omega arith) (λ d. omega arith)
 
 returns-7 : tie.Need-returns-7
 returns-7 c =
-    let i = c .before .before .before .before .before .before .before in
-    let a = i .before .before .before .args in
-    utf16-unpaired (now (a .text)) (a .offset) (i .before .if1 .left) (i .if2 .left) (search needs) (λ d. omega (arith, d .1, c .if7 .taken))
+    let a = c .before .before .before .before .before .before .before .before .before .before .args in
+    utf16-unpaired (now (a .text)) (a .offset) (omega arith) (omega arith) (omega arith) (λ d. omega arith)
 
 sub-t5 : tie.Need-sub-t5
 sub-t5 c = search needs
 
 returns-8 : tie.Need-returns-8
 returns-8 c =
-    let i = c .before .before .before .before .before .before .before in
-    let a = i .before .before .before .args in
-    utf16-paired (now (a .text)) (a .offset) (i .before .if1 .left) (i .if2 .left) (search needs) (search needs) (search needs) (c .before .if6 .left, c .if7 .left)
+    let a = c .before .before .before .before .before .before .before .before .before .before .args in
+    utf16-paired (now (a .text)) (a .offset) (omega arith) (omega arith) (omega arith) (omega arith) (omega arith) (omega arith, omega arith)
 
 pub item-start-spec : {M : Type 1} → statement M
 item-start-spec =
