@@ -8,11 +8,12 @@ use native.Mathlib.Omega.{arith}
 use borrow.Author.Tests.{lt-ltb, le-ltb}
 use lib.ListN.{length, drop}
 use Rattle.forms.specs.declared.Fault.{Fault}
-use Rattle.forms.specs.declared.Fault.the-variants.{SourceTooLong, MissingTrailing, StrayTrailing, InvalidUnit, Overlong, Unrepresentable, BufferTooShort, ValueTooLarge}
+use Rattle.forms.specs.declared.Fault.the-variants.{SourceTooLong, MissingTrailing, StrayTrailing, InvalidUnit, Overlong, Unrepresentable, BufferTooShort, ValueTooLarge, OffsetOutOfRange}
 use Rattle.forms.specs.declared.Item.{Item}
 use Rattle.forms.specs.declared.Item.the-variants.{Character, Mark}
 use Rattle.forms.specs.declared.Conversion.{Conversion}
 use Rattle.forms.specs.declared.Conversion.the-variants.{Units, Refused}
+use Rattle.forms.specs.declared.Start.{Start}
 use Rattle.forms.specs.Fault.{limit, refusal}
 use Rattle.forms.specs.Form.{units, Form, sequences, span, spanOf, items, encode, encodeAll, AllEncodable, WellFormed, OccursAt}
 use Rattle.forms.specs.Layout.{formOf}
@@ -25,6 +26,7 @@ use Rattle.forms.specs.Lossy as Lossy
 use Rattle.forms.specs.Lossy.{lossy, counts, valuesIn, startsIn}
 use Rattle.forms.specs.Buffer.{withUnits, Holds}
 use Rattle.forms.specs.Conversion.{refused, refusalAt, convertItems, outcome, strict, answerOf, cellsOf, Measures, Converts}
+use Rattle.forms.specs.Start.{endOf, covering, startOf, itemStart}
 
 pub data Example : Type 0 where
   -- a value and its legal encoding, which is read as the value
@@ -253,3 +255,26 @@ characters = refl
 
 pub no-surrogate-behind : AllEncodable utf16 (0x41 ∷ 0xD800 ∷ []) → ⊥
 no-surrogate-behind a = a .1 .0 refl
+
+-- the start of the item at each offset of the listing, and 9 with the offset from its end on; a pair behind a high unit
+pub listed-item-starts :
+    map (itemStart fssUtf listing) (0 ∷ 1 ∷ 2 ∷ 3 ∷ 4 ∷ 5 ∷ 6 ∷ 7 ∷ 8 ∷ [])
+    ≡ Start.At 0 ∷ Start.At 1 ∷ Start.At 1 ∷ Start.At 3 ∷ Start.At 4 ∷ Start.At 4 ∷ Start.At 6 ∷ Start.Refused (refusal OffsetOutOfRange 7) ∷ Start.Refused (refusal OffsetOutOfRange 8) ∷ []
+listed-item-starts = refl
+
+pub pair-starts : map (itemStart utf16 (0xD800 ∷ 0xD800 ∷ 0xDC00 ∷ [])) (0 ∷ 1 ∷ 2 ∷ []) ≡ Start.At 0 ∷ Start.At 1 ∷ Start.At 1 ∷ []
+pair-starts = refl
+
+-- the item itself, and the offset behind it
+pub covering-item : covering (items fssUtf listing) 5 ≡ some (Mark MissingTrailing (span 4 2))
+covering-item = refl
+
+pub item-end : endOf (Mark MissingTrailing (span 4 2)) ≡ 6
+item-end = refl
+
+-- 1 before 9, above the limit only
+pub start-at-the-limit : (F : Form) (s : List ℕ) (p : ℕ) → length s ≤ 65536 → itemStart F s p ≡ startOf p (covering (items F s) p)
+start-at-the-limit F s p h = rw (le-ltb limit (length s) h)
+
+pub start-above-the-limit : (F : Form) (s : List ℕ) (p : ℕ) → 65537 ≤ length s → itemStart F s p ≡ Start.Refused (refusal SourceTooLong 0)
+start-above-the-limit F s p h = rw (lt-ltb limit (length s) h)

@@ -22,3 +22,5 @@ pub mod Answers
 pub mod Room
 pub mod RoundTrip
 pub mod TwelvePairs
+pub mod Distances
+pub mod Starts
