@@ -11,6 +11,8 @@ use Rattle.forms.specs.declared.Conversion.the-variants.{Units, Refused as NoUn
 use Rattle.forms.specs.declared.Counts.{Counts}
 use Rattle.forms.specs.declared.Decoding.{Decoding}
 use Rattle.forms.specs.declared.Decoding.the-variants.{Decoded, Refused as NotDecoded}
+use Rattle.forms.specs.declared.Start.{Start}
+use Rattle.forms.specs.declared.Start.the-variants.{At, Refused as NoStart}
 use Rattle.forms.specs.Fault.{numberOf}
 use Rattle.forms.specs.Form.{Form}
 use Rattle.forms.specs.Conversion.{outcome, strict, answerOf, cellsOf}
@@ -20,6 +22,7 @@ use Rattle.reader.specs.declared.Step.the-variants.{Next, End, Refused}
 use Rattle.jiskromet.specs.declared.JkItem.{JkItem}
 use Rattle.jiskromet.specs.declared.JkConversion.{JkConversion}
 use Rattle.jiskromet.specs.declared.JkDecoding.{JkDecoding}
+use Rattle.jiskromet.specs.declared.JkStart.{JkStart}
 
 abbrev pub jkItem : ℕ → ℕ → ℕ → ℕ → ℕ → JkItem
 jkItem k f v p n = record { kind = k; fault = f; value = v; offset = p; length = n }
@@ -69,3 +72,11 @@ pub record DecodesLossyInC (F : Form) (s d e : List ℕ) (r : JkDecoding) (o p :
   pub decoding : Decoding
   pub promised : DecodesLossy F s d e decoding o p
   pub numbers : r ≡ decodingAnswer decoding
+
+abbrev pub jkStart : ℕ → ℕ → ℕ → JkStart
+jkStart f p n = record { fault = f; offset = p; start = n }
+
+-- a refusal has its number, its place and 0 for the start
+abbrev pub startAnswer : Start → JkStart
+startAnswer (At n) = jkStart 0 0 n
+startAnswer (NoStart r) = jkStart (numberOf (r .fault)) (r .offset) 0

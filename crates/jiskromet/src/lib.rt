@@ -3,17 +3,19 @@
 // Each answer is a struct of numbers. `specs/Answer` says which number stands for which case.
 pub mod conversions;
 pub mod decodings;
+pub mod starts;
 
 use forms::Conversion;
 use forms::Decoding;
 use forms::Item;
 use forms::Refusal;
+use forms::Start;
 use reader::Cursor;
 use reader::Step;
 ghost use mathlib.Core.Path.{_≡_};
 ghost use Rattle.forms.specs.Forms.{fssUtf, utfEbcdic, utf16, ucs4};
 ghost use Rattle.reader.specs.Step.{cursor, stepAt};
-ghost use Rattle.jiskromet.specs.Answer.{itemAnswer, shownItem, refusedItem, conversionAnswer, decodingAnswer};
+ghost use Rattle.jiskromet.specs.Answer.{itemAnswer, shownItem, refusedItem, conversionAnswer, decodingAnswer, startAnswer};
 
 #[repr(C)]
 pub struct JkItem {
@@ -168,5 +170,36 @@ fn refused_decoding(refusal: Refusal) -> JkDecoding
         offset: refusal.offset as u64,
         items: 0,
         marks: 0,
+    }
+}
+
+#[repr(C)]
+pub struct JkStart {
+    pub fault: u32,
+    pub offset: u64,
+    pub start: u64,
+}
+
+fn start_answer(start: Start) -> JkStart
+    ensures { λ r. ⌜ r ≡ startAnswer start ⌝ }
+{
+    match start {
+        Start::At(offset) => JkStart {
+            fault: 0,
+            offset: 0,
+            start: offset as u64,
+        },
+        Start::Refused(refusal) => refused_start(refusal),
+    }
+}
+
+fn refused_start(refusal: Refusal) -> JkStart
+    ensures { λ r. ⌜ r ≡ startAnswer (Start.Refused refusal) ⌝ }
+{
+    let fault = refusal.fault;
+    JkStart {
+        fault: forms::number(fault),
+        offset: refusal.offset as u64,
+        start: 0,
     }
 }

@@ -1,0 +1,12 @@
+use borrow.Author.Needs.{needs}
+use Rattle.jiskromet.proofs.refused_start.Statement.{statement}
+use Rattle.jiskromet.proofs.refused_start.Tie as tie
+
+number-requires : tie.Need-number-requires
+number-requires c κs = search needs
+
+returns : tie.Need-returns
+returns c = rw (c .number .ensures)
+
+pub refused-start-spec : {M : Type 1} → statement M
+refused-start-spec = tie.close (tie.spec number-requires returns)
