@@ -3,10 +3,12 @@
 pub mod acceptance;
 pub mod boundaries;
 pub mod conversion;
+mod lent;
 pub mod limits;
 pub mod listing;
 pub mod published;
 pub mod random_texts;
+mod reserved;
 pub mod units;
 pub mod walking;
 

@@ -9,11 +9,12 @@ pub mod values;
 
 use std::fmt::Display;
 
+use super::lent::Lent;
 use super::Told;
 use crate::library::{JkConversion, Linked, LinkedTo};
-use crate::random::{Drawn, Random};
+use crate::random::Drawn;
 use crate::reference::{
-    convert, most_units, written, Content, Converted, Form, FssUtf, Refusal, Role, Ucs4, Utf16,
+    convert, most_units, written, Content, Converted, Form, FssUtf, Refusal, Ucs4, Utf16,
     UtfEbcdic, LONGEST_TEXT,
 };
 use crate::report::{hex, told_conversion, Group};
@@ -271,83 +272,5 @@ fn told_result<G: Form>(converted: &Converted<G>) -> String {
     match converted {
         Ok(result) => format!("[{}]", hex::<G>(result)),
         Err(Refusal { fault, offset }) => format!("fault {fault} at {offset}"),
-    }
-}
-
-/// Cells on either side of lent ones that are not lent.
-const GUARD: usize = 8;
-
-/// Cells lent to the library between others that are not, and what they shall
-/// hold after the call.
-struct Lent<F: Form> {
-    cells: Vec<F::Unit>,
-    shall_hold: Vec<F::Unit>,
-}
-
-impl<F: Form> Lent<F> {
-    fn new(cells: Vec<F::Unit>) -> Self {
-        Lent {
-            shall_hold: cells.clone(),
-            cells,
-        }
-    }
-
-    /// A text. A reader that strays beyond its end meets units that would go
-    /// on with a sequence, where the form has such.
-    fn text(text: &[F::Unit]) -> Self
-    where
-        F: Drawn,
-    {
-        let mut random = Random::new(text.len() as u64);
-        let mut cells: Vec<F::Unit> = (0..GUARD).map(|_| F::telling_unit(&mut random)).collect();
-        cells.extend_from_slice(text);
-        while cells.len() < text.len() + 2 * GUARD {
-            let unit = F::telling_unit(&mut random);
-            if F::LONGEST_ITEM == 1 || F::role(unit) == Role::Trailing {
-                cells.push(unit);
-            }
-        }
-        Lent::new(cells)
-    }
-
-    /// Cells for a result, each with a number of its own; `turned`, with the
-    /// opposite of every bit.
-    fn room(room: usize, turned: bool) -> Self {
-        let filling = |cell: usize| {
-            let spread = (cell as u32).wrapping_mul(0x9E37_79B9);
-            let number = if turned { !spread } else { spread };
-            F::unit(number >> (32 - 8 * size_of::<F::Unit>()))
-        };
-        Lent::new((1..=room + 2 * GUARD).map(filling).collect())
-    }
-
-    /// To the first lent cell. A call may reach the others as well, which is
-    /// seen afterwards.
-    fn pointer(&mut self) -> *mut F::Unit {
-        self.cells.as_mut_ptr().wrapping_add(GUARD)
-    }
-
-    /// The first lent cells shall hold these units after the call.
-    fn shall_begin(&mut self, units: &[F::Unit]) {
-        self.shall_hold[GUARD..GUARD + units.len()].copy_from_slice(units);
-    }
-
-    fn holds(&self) -> bool {
-        self.cells == self.shall_hold
-    }
-
-    /// The first cell that is not as it shall be, counted from the first lent
-    /// one.
-    fn difference(&self) -> String {
-        let mut pairs = self.cells.iter().zip(&self.shall_hold).enumerate();
-        match pairs.find(|(_, (came, shall))| came != shall) {
-            Some((index, (&came, &shall))) => format!(
-                "cell {} holds {}, not {}",
-                index as isize - GUARD as isize,
-                hex::<F>(&[came]),
-                hex::<F>(&[shall]),
-            ),
-            None => "no cell differs".to_string(),
-        }
     }
 }

@@ -1,12 +1,11 @@
 //! The longest text and longer ones, the empty one, and room that a narrower
 //! number would take for less.
 
-use std::alloc::{alloc_zeroed, dealloc, Layout};
-use std::fmt::Display;
 use std::ptr;
 
 use super::faults::{one_of_each_fault, Faulty, Marked};
 use super::{each_pair, fills, pair, three_ways};
+use crate::checks::reserved::Reserved;
 use crate::library::{JkConversion, LinkedTo};
 use crate::random::{add_common, Drawn, Random};
 use crate::reference::{
@@ -147,38 +146,8 @@ fn much_room<F: LinkedTo<G> + Drawn, G: LinkedTo<F> + Drawn>(group: &mut Group) 
     }
 }
 
-/// More bytes than 32 bits count: cut to 32 bits, their number would be small.
-/// They are zero, and their memory is reserved only.
-struct Bytes {
-    pointer: *mut u8,
-    layout: Layout,
-}
-
-impl Bytes {
-    const COUNT: usize = (1 << 32) + 5;
-
-    /// None, and a note, where the machine has no room for them.
-    fn reserve(group: &mut Group, what: impl Display) -> Option<Self> {
-        let layout = Layout::array::<u8>(Self::COUNT).expect("less than isize::MAX");
-        // SAFETY: the layout is not empty.
-        let pointer = unsafe { alloc_zeroed(layout) };
-        if pointer.is_null() {
-            group.note(format!(
-                "no room for {} bytes: {what} was not run",
-                Self::COUNT
-            ));
-            return None;
-        }
-        Some(Bytes { pointer, layout })
-    }
-}
-
-impl Drop for Bytes {
-    fn drop(&mut self) {
-        // SAFETY: it was allocated with this layout.
-        unsafe { dealloc(self.pointer, self.layout) };
-    }
-}
+/// More bytes than 32 bits count.
+type Bytes = Reserved<u8>;
 
 /// A text of more than 2^32 bytes is too long in any room.
 fn texts_beyond_32_bits(group: &mut Group) {
