@@ -6,6 +6,7 @@ pub mod conversion;
 mod lent;
 pub mod limits;
 pub mod listing;
+pub mod lossy;
 pub mod published;
 pub mod random_texts;
 mod reserved;
@@ -43,8 +44,8 @@ pub fn mark(fault: u32, length: usize) -> Told {
 }
 
 /// Holds a text's items as a paper tells them to the reference's items, to
-/// the library's answers from the first item on to the end, and to the
-/// conversions of the text to the three other forms.
+/// the library's answers from the first item on to the end, to the conversions
+/// of the text to the three other forms, and to its mended reading.
 pub fn three_ways<F: ToOthers>(
     group: &mut Group,
     source: impl Display,
@@ -78,6 +79,7 @@ pub fn three_ways<F: ToOthers>(
     let end = JkItem::of(Reading::End, text.len());
     group.answer::<F>(&text, text.len(), end, &source);
     F::to_others(group, &source, &text, told);
+    lossy::three_ways::<F>(group, &source, &text, told);
 }
 
 /// `three_ways` for a text that is one character, together with the

@@ -23,11 +23,56 @@ pub struct JkConversion {
     pub units: u64,
 }
 
+#[repr(C)]
+#[derive(Clone, Copy, Debug, PartialEq, Eq)]
+pub struct JkDecoding {
+    pub fault: u32,
+    pub offset: u64,
+    pub items: u64,
+    pub marks: u64,
+}
+
 extern "C" {
     fn jk_fss_utf_item_at(text: *const u8, len: usize, offset: usize) -> JkItem;
     fn jk_utf_ebcdic_item_at(text: *const u8, len: usize, offset: usize) -> JkItem;
     fn jk_utf16_item_at(text: *const u16, len: usize, offset: usize) -> JkItem;
     fn jk_ucs4_item_at(text: *const u32, len: usize, offset: usize) -> JkItem;
+
+    fn jk_fss_utf_decode_lossy(
+        text: *const u8,
+        len: usize,
+        values: *mut u32,
+        values_len: usize,
+        starts: *mut u32,
+        starts_len: usize,
+    ) -> JkDecoding;
+
+    fn jk_utf_ebcdic_decode_lossy(
+        text: *const u8,
+        len: usize,
+        values: *mut u32,
+        values_len: usize,
+        starts: *mut u32,
+        starts_len: usize,
+    ) -> JkDecoding;
+
+    fn jk_utf16_decode_lossy(
+        text: *const u16,
+        len: usize,
+        values: *mut u32,
+        values_len: usize,
+        starts: *mut u32,
+        starts_len: usize,
+    ) -> JkDecoding;
+
+    fn jk_ucs4_decode_lossy(
+        text: *const u32,
+        len: usize,
+        values: *mut u32,
+        values_len: usize,
+        starts: *mut u32,
+        starts_len: usize,
+    ) -> JkDecoding;
 
     fn jk_fss_utf_to_utf_ebcdic(
         src: *const u8,
@@ -191,6 +236,26 @@ impl JkConversion {
     }
 }
 
+impl JkDecoding {
+    /// The answer that so many items and marks, or a refusal, come back as.
+    pub fn of(counts: Result<(usize, usize), Refusal>) -> Self {
+        match counts {
+            Ok((items, marks)) => JkDecoding {
+                fault: 0,
+                offset: 0,
+                items: items as u64,
+                marks: marks as u64,
+            },
+            Err(Refusal { fault, offset }) => JkDecoding {
+                fault,
+                offset: offset as u64,
+                items: 0,
+                marks: 0,
+            },
+        }
+    }
+}
+
 /// A form whose exports are linked.
 pub trait Linked: Form {
     /// The one-item reader as C calls it.
@@ -204,6 +269,22 @@ pub trait Linked: Form {
         // SAFETY: pointer and length are those of a slice.
         unsafe { Self::raw_item_at(text.as_ptr(), text.len(), offset) }
     }
+
+    /// The mended reading as C calls it.
+    ///
+    /// # Safety
+    ///
+    /// `text` points to `len` units, or `len` is 0. `values` and `starts` point
+    /// to as many cells as are told, which no reference borrows and of which
+    /// none is shared, or their number is 0.
+    unsafe fn raw_decode_lossy(
+        text: *const Self::Unit,
+        len: usize,
+        values: *mut u32,
+        values_len: usize,
+        starts: *mut u32,
+        starts_len: usize,
+    ) -> JkDecoding;
 }
 
 /// A form whose conversion to the form `G` is linked.
@@ -240,19 +321,30 @@ pub trait LinkedTo<G: Form>: Form {
 }
 
 macro_rules! link {
-    ($form:ty, $item_at:ident) => {
+    ($form:ty, $item_at:ident, $decode_lossy:ident) => {
         impl Linked for $form {
             unsafe fn raw_item_at(text: *const Self::Unit, len: usize, offset: usize) -> JkItem {
                 $item_at(text, len, offset)
+            }
+
+            unsafe fn raw_decode_lossy(
+                text: *const Self::Unit,
+                len: usize,
+                values: *mut u32,
+                values_len: usize,
+                starts: *mut u32,
+                starts_len: usize,
+            ) -> JkDecoding {
+                $decode_lossy(text, len, values, values_len, starts, starts_len)
             }
         }
     };
 }
 
-link!(FssUtf, jk_fss_utf_item_at);
-link!(UtfEbcdic, jk_utf_ebcdic_item_at);
-link!(Utf16, jk_utf16_item_at);
-link!(Ucs4, jk_ucs4_item_at);
+link!(FssUtf, jk_fss_utf_item_at, jk_fss_utf_decode_lossy);
+link!(UtfEbcdic, jk_utf_ebcdic_item_at, jk_utf_ebcdic_decode_lossy);
+link!(Utf16, jk_utf16_item_at, jk_utf16_decode_lossy);
+link!(Ucs4, jk_ucs4_item_at, jk_ucs4_decode_lossy);
 
 macro_rules! link_pair {
     ($from:ty, $to:ty, $convert:ident, $measure:ident) => {

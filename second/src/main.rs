@@ -19,7 +19,8 @@ use std::path::PathBuf;
 use std::process::ExitCode;
 
 use checks::{
-    acceptance, boundaries, conversion, limits, listing, published, random_texts, units, walking,
+    acceptance, boundaries, conversion, limits, listing, lossy, published, random_texts, units,
+    walking,
 };
 use report::Report;
 
@@ -75,6 +76,8 @@ fn main() -> ExitCode {
     report.run("conversion limits", conversion::limits::check);
     report.run("conversion room", conversion::room::check);
     report.run("conversion of random texts", conversion::texts::check);
+    report.run("mended readings", lossy::texts::check);
+    report.run("mended reading's limits", lossy::limits::check);
     if let Some(program) = &arguments.listing {
         report.run("listing program", |group| listing::check(group, program));
     }

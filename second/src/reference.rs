@@ -5,9 +5,11 @@
 
 mod conversion;
 mod exchange;
+mod lossy;
 
 pub use conversion::{convert, most_units, written, Converted, Refusal};
 pub use exchange::{I8_TO_UTF_EBCDIC, UTF_EBCDIC_TO_I8};
+pub use lossy::{decode_lossy, given, Decoded, Mended};
 
 use std::fmt::Debug;
 use std::ops::Deref;

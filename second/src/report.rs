@@ -2,7 +2,7 @@
 
 use std::fmt::Display;
 
-use crate::library::{JkConversion, JkItem, Linked, CHARACTER, END, MARK, REFUSAL};
+use crate::library::{JkConversion, JkDecoding, JkItem, Linked, CHARACTER, END, MARK, REFUSAL};
 use crate::reference::{self, Form};
 
 /// How many failures of a group are printed in full.
@@ -165,4 +165,15 @@ pub fn told_conversion(conversion: JkConversion) -> String {
         units,
     } = conversion;
     format!("fault {fault}, offset {offset}, {units} units")
+}
+
+/// A mended reading's answer in words, with every field.
+pub fn told_decoding(decoding: JkDecoding) -> String {
+    let JkDecoding {
+        fault,
+        offset,
+        items,
+        marks,
+    } = decoding;
+    format!("fault {fault}, offset {offset}, {items} items, {marks} marks")
 }

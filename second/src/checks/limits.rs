@@ -70,7 +70,7 @@ fn far_offsets<F: Linked + Drawn>(group: &mut Group) {
 
 /// Texts of exactly this many units: of units drawn at random, of characters,
 /// and of one unit all through.
-fn texts<F: Drawn>(length: usize) -> Vec<Vec<F::Unit>> {
+pub fn texts<F: Drawn>(length: usize) -> Vec<Vec<F::Unit>> {
     let mut random = Random::new(length as u64);
     let mut texts = vec![(0..length).map(|_| F::telling_unit(&mut random)).collect()];
     let mut good = Vec::new();
