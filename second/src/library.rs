@@ -285,6 +285,20 @@ pub trait Linked: Form {
         starts: *mut u32,
         starts_len: usize,
     ) -> JkDecoding;
+
+    fn decode_lossy(text: &[Self::Unit], values: &mut [u32], starts: &mut [u32]) -> JkDecoding {
+        // SAFETY: pointers and lengths are those of slices.
+        unsafe {
+            Self::raw_decode_lossy(
+                text.as_ptr(),
+                text.len(),
+                values.as_mut_ptr(),
+                values.len(),
+                starts.as_mut_ptr(),
+                starts.len(),
+            )
+        }
+    }
 }
 
 /// A form whose conversion to the form `G` is linked.

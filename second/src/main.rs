@@ -1,5 +1,6 @@
 //! An outside witness of `libjiskromet.a`: it runs the library on many texts
-//! and holds every answer to a second implementation of document 01.
+//! and holds every answer to a second implementation of document 01, and the
+//! mended readings to the words of demand 3 besides.
 //!
 //! Usage: `second [--root DIR] [--listing PATH]`
 //!
@@ -78,6 +79,8 @@ fn main() -> ExitCode {
     report.run("conversion of random texts", conversion::texts::check);
     report.run("mended readings", lossy::texts::check);
     report.run("mended reading's limits", lossy::limits::check);
+    report.run("demand 3", lossy::parts::check);
+    report.run("the tender's accident", lossy::accident::check);
     if let Some(program) = &arguments.listing {
         report.run("listing program", |group| listing::check(group, program));
     }

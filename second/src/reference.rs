@@ -9,7 +9,7 @@ mod lossy;
 
 pub use conversion::{convert, most_units, written, Converted, Refusal};
 pub use exchange::{I8_TO_UTF_EBCDIC, UTF_EBCDIC_TO_I8};
-pub use lossy::{decode_lossy, given, Decoded, Mended};
+pub use lossy::{decode_lossy, given, Decoded, Mended, MARK_VALUE};
 
 use std::fmt::Debug;
 use std::ops::Deref;

@@ -1,6 +1,8 @@
 //! The mended reading of a whole text.
 
+pub mod accident;
 pub mod limits;
+pub mod parts;
 pub mod texts;
 
 use std::fmt::Display;
