@@ -32,6 +32,14 @@ pub struct JkDecoding {
     pub marks: u64,
 }
 
+#[repr(C)]
+#[derive(Clone, Copy, Debug, PartialEq, Eq)]
+pub struct JkStart {
+    pub fault: u32,
+    pub offset: u64,
+    pub start: u64,
+}
+
 extern "C" {
     fn jk_fss_utf_item_at(text: *const u8, len: usize, offset: usize) -> JkItem;
     fn jk_utf_ebcdic_item_at(text: *const u8, len: usize, offset: usize) -> JkItem;
@@ -46,6 +54,7 @@ extern "C" {
         starts: *mut u32,
         starts_len: usize,
     ) -> JkDecoding;
+    fn jk_fss_utf_item_start(text: *const u8, len: usize, offset: usize) -> JkStart;
 
     fn jk_utf_ebcdic_decode_lossy(
         text: *const u8,
@@ -55,6 +64,7 @@ extern "C" {
         starts: *mut u32,
         starts_len: usize,
     ) -> JkDecoding;
+    fn jk_utf_ebcdic_item_start(text: *const u8, len: usize, offset: usize) -> JkStart;
 
     fn jk_utf16_decode_lossy(
         text: *const u16,
@@ -64,6 +74,7 @@ extern "C" {
         starts: *mut u32,
         starts_len: usize,
     ) -> JkDecoding;
+    fn jk_utf16_item_start(text: *const u16, len: usize, offset: usize) -> JkStart;
 
     fn jk_ucs4_decode_lossy(
         text: *const u32,
@@ -73,6 +84,7 @@ extern "C" {
         starts: *mut u32,
         starts_len: usize,
     ) -> JkDecoding;
+    fn jk_ucs4_item_start(text: *const u32, len: usize, offset: usize) -> JkStart;
 
     fn jk_fss_utf_to_utf_ebcdic(
         src: *const u8,
@@ -256,6 +268,24 @@ impl JkDecoding {
     }
 }
 
+impl JkStart {
+    /// The answer that a start, or a refusal, comes back as.
+    pub fn of(start: Result<usize, Refusal>) -> Self {
+        match start {
+            Ok(start) => JkStart {
+                fault: 0,
+                offset: 0,
+                start: start as u64,
+            },
+            Err(Refusal { fault, offset }) => JkStart {
+                fault,
+                offset: offset as u64,
+                start: 0,
+            },
+        }
+    }
+}
+
 /// A form whose exports are linked.
 pub trait Linked: Form {
     /// The one-item reader as C calls it.
@@ -299,6 +329,18 @@ pub trait Linked: Form {
             )
         }
     }
+
+    /// The start finder as C calls it.
+    ///
+    /// # Safety
+    ///
+    /// `text` points to `len` units, or `len` is 0.
+    unsafe fn raw_item_start(text: *const Self::Unit, len: usize, offset: usize) -> JkStart;
+
+    fn item_start(text: &[Self::Unit], offset: usize) -> JkStart {
+        // SAFETY: pointer and length are those of a slice.
+        unsafe { Self::raw_item_start(text.as_ptr(), text.len(), offset) }
+    }
 }
 
 /// A form whose conversion to the form `G` is linked.
@@ -335,7 +377,7 @@ pub trait LinkedTo<G: Form>: Form {
 }
 
 macro_rules! link {
-    ($form:ty, $item_at:ident, $decode_lossy:ident) => {
+    ($form:ty, $item_at:ident, $decode_lossy:ident, $item_start:ident) => {
         impl Linked for $form {
             unsafe fn raw_item_at(text: *const Self::Unit, len: usize, offset: usize) -> JkItem {
                 $item_at(text, len, offset)
@@ -351,14 +393,42 @@ macro_rules! link {
             ) -> JkDecoding {
                 $decode_lossy(text, len, values, values_len, starts, starts_len)
             }
+
+            unsafe fn raw_item_start(
+                text: *const Self::Unit,
+                len: usize,
+                offset: usize,
+            ) -> JkStart {
+                $item_start(text, len, offset)
+            }
         }
     };
 }
 
-link!(FssUtf, jk_fss_utf_item_at, jk_fss_utf_decode_lossy);
-link!(UtfEbcdic, jk_utf_ebcdic_item_at, jk_utf_ebcdic_decode_lossy);
-link!(Utf16, jk_utf16_item_at, jk_utf16_decode_lossy);
-link!(Ucs4, jk_ucs4_item_at, jk_ucs4_decode_lossy);
+link!(
+    FssUtf,
+    jk_fss_utf_item_at,
+    jk_fss_utf_decode_lossy,
+    jk_fss_utf_item_start
+);
+link!(
+    UtfEbcdic,
+    jk_utf_ebcdic_item_at,
+    jk_utf_ebcdic_decode_lossy,
+    jk_utf_ebcdic_item_start
+);
+link!(
+    Utf16,
+    jk_utf16_item_at,
+    jk_utf16_decode_lossy,
+    jk_utf16_item_start
+);
+link!(
+    Ucs4,
+    jk_ucs4_item_at,
+    jk_ucs4_decode_lossy,
+    jk_ucs4_item_start
+);
 
 macro_rules! link_pair {
     ($from:ty, $to:ty, $convert:ident, $measure:ident) => {

@@ -24,7 +24,7 @@ fn refusal(fault: u32, offset: usize) -> JkItem {
 }
 
 /// Offsets that a narrower number would take for small ones.
-const FAR: [usize; 8] = [
+pub const FAR: [usize; 8] = [
     1 << 16,
     (1 << 16) + 1,
     (1 << 32) - 1,

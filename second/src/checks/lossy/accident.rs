@@ -4,7 +4,7 @@
 use super::named;
 use crate::library::Linked;
 use crate::reference::{FssUtf, Ucs4, Utf16, UtfEbcdic, MARK_VALUE};
-use crate::report::{told_decoding, Group};
+use crate::report::{told_decoding, told_start, Group};
 
 /// "Three bytes of an alarm text were lost."
 const LOST: usize = 3;
@@ -195,5 +195,19 @@ fn spared<F: Linked>(
     });
     if marks < others.len() {
         losses.joined += 1;
+    }
+
+    for item in before.iter().chain(after) {
+        for place in item.1..end(item) {
+            let came = F::item_start(text, place);
+            group.check(came.fault == 0 && came.start == item.1 as u64, || {
+                format!(
+                    "{}: the start from {place} is {}, not {}",
+                    source(),
+                    told_start(came),
+                    item.1,
+                )
+            });
+        }
     }
 }
