@@ -649,6 +649,13 @@ mod tests {
                                        uint32_t *dst, size_t dst_len);
         jk_conversion jk_utf16_to_ucs4_length(const uint16_t *src, size_t src_len);
         jk_conversion jk_fss_utf_to_utf_ebcdic(const uint8_t *src, size_t src_len, uint8_t *dst, size_t dst_len);
+        typedef struct jk_decoding {
+            uint32_t fault; uint64_t offset; uint64_t items; uint64_t marks;
+        } jk_decoding;
+        typedef struct jk_start { uint32_t fault; uint64_t offset; uint64_t start; } jk_start;
+        jk_decoding jk_utf16_decode_lossy(const uint16_t *text, size_t len,
+            uint32_t *values, size_t values_len, uint32_t *starts, size_t starts_len);
+        jk_start jk_utf16_item_start(const uint16_t *text, size_t len, size_t offset);
         static inline size_t jk_next(jk_item item) { return item.length; }
         #ifdef __cplusplus
         }
@@ -663,6 +670,10 @@ mod tests {
         pub struct JkItem { pub kind: u32, pub length: u64 }
         #[repr(C)]
         pub struct JkConversion { pub fault: u32, pub offset: u64, pub units: u64, }
+        #[repr(C)]
+        pub struct JkDecoding { pub fault: u32, pub offset: u64, pub items: u64, pub marks: u64 }
+        #[repr(C)]
+        pub struct JkStart { pub fault: u32, pub offset: u64, pub start: u64 }
         struct Other { x: i8 }
         extern "C" {
             fn jk_fss_utf_item_at(text: *const u8, len: usize, offset: usize) -> JkItem;
@@ -675,6 +686,15 @@ mod tests {
                 dst: *mut u8,
                 dst_len: usize,
             ) -> JkConversion;
+            fn jk_utf16_decode_lossy(
+                text: *const u16,
+                len: usize,
+                values: *mut u32,
+                values_len: usize,
+                starts: *mut u32,
+                starts_len: usize,
+            ) -> JkDecoding;
+            fn jk_utf16_item_start(text: *const u16, len: usize, offset: usize) -> JkStart;
         }
     "#;
 
@@ -688,6 +708,10 @@ mod tests {
         }
         #[repr(C)]
         pub struct JkConversion { pub fault: u32, pub offset: u64, pub units: u64 }
+        #[repr(C)]
+        pub struct JkDecoding { pub fault: u32, pub offset: u64, pub items: u64, pub marks: u64 }
+        #[repr(C)]
+        pub struct JkStart { pub fault: u32, pub offset: u64, pub start: u64 }
         #[no_mangle]
         pub extern "C" fn jk_fss_utf_item_at(text: &[u8], offset: usize) -> JkItem
             ensures { result == told(read(text@, offset)) }
@@ -710,6 +734,18 @@ mod tests {
             ensures { result == told(converted(src@, old(dst)@)) && dst@ == cells(src@, old(dst)@) }
         {
             convert(src, dst)
+        }
+        #[no_mangle]
+        pub extern "C" fn jk_utf16_decode_lossy(
+            text: &[u16], values: &mut [u32], starts: &mut [u32]
+        ) -> JkDecoding
+            ensures { values@ == read(text@).values && starts@ == read(text@).starts }
+        {
+            decode(text, values, starts)
+        }
+        #[no_mangle]
+        pub extern "C" fn jk_utf16_item_start(text: &[u16], offset: usize) -> JkStart {
+            find(text, offset)
         }
     "#;
 
@@ -763,7 +799,26 @@ mod tests {
                 "jk_conversion { uint32_t fault",
                 "jk_conversion { uint64_t fault",
             ),
+            header("uint32_t *values", "uint32_t *starts"),
+            header(
+                "uint32_t *values, size_t values_len, uint32_t *starts, size_t starts_len",
+                "uint32_t *starts, size_t starts_len, uint32_t *values, size_t values_len",
+            ),
+            header("uint32_t *starts, size_t starts_len", "uint32_t *starts"),
+            header(
+                "uint64_t items; uint64_t marks",
+                "uint64_t marks; uint64_t items",
+            ),
+            header(
+                "jk_start jk_utf16_item_start",
+                "jk_item jk_utf16_item_start",
+            ),
+            header("uint64_t start; }", "uint64_t begin; }"),
             rust("len: usize, offset: usize", "len: usize"),
+            rust("values: *mut u32", "values: *const u32"),
+            rust("starts_len: usize", "starts_len: u32"),
+            rust("items: u64, pub marks", "marks: u64, pub items"),
+            rust("-> JkStart", "-> JkItem"),
             rust("kind: u32, pub length: u64", "length: u64, pub kind: u32"),
             rust("*mut u32", "*const u32"),
             rust("*const u16", "*const u8"),
@@ -771,6 +826,11 @@ mod tests {
             rust("src: *const u8,", "dst: *const u8,"),
             rust("pub units: u64", "pub count: u64"),
             rattle("&mut [u32]", "&[u32]"),
+            rattle("starts: &mut [u32]", "starts: &[u32]"),
+            rattle("values: &mut [u32], starts", "starts: &mut [u32], values"),
+            rattle("values: &mut [u32], ", ""),
+            rattle("offset: usize) -> JkStart", "offset: u64) -> JkStart"),
+            rattle("offset: u64, pub start", "start: u64, pub offset"),
             rattle("&[u16]", "&[u8]"),
             rattle("dst: &mut [u8]", "dst: &mut [u16]"),
             rattle("src: &[u8], dst: &mut [u8]", "dst: &mut [u8], src: &[u8]"),
