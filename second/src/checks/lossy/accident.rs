@@ -62,13 +62,16 @@ pub fn check(group: &mut Group) {
 /// What was lost, for the notes.
 #[derive(Default)]
 struct Losses {
-    /// Places where three units were lost, and those of them where the loss hit
-    /// both alarms.
+    /// Places where three units were lost.
     places: usize,
+    /// Those of them where the loss hit both alarms.
     both: usize,
+    /// Places where another number of units was lost.
     others: usize,
+    /// Characters that no loss hit.
     spared: usize,
-    /// Losses whose remains, put together, are the encoding of a character.
+    /// Losses whose remains, standing together, are the legal encoding of some
+    /// character, which is then given.
     joined: usize,
 }
 
@@ -85,8 +88,8 @@ fn each_two<F: Linked>(group: &mut Group, alarms: &[Vec<u32>]) {
     }
     group.note(format!(
         "{}: {LOST} units lost at {} places, at {} of them from both alarms; \
-         other numbers lost at {} places; {} characters spared, \
-         and {} losses left a character put together",
+         other numbers lost at {} places; {} characters spared; \
+         the remains of {} losses stand together as a character",
         F::NAME,
         losses.places,
         losses.both,

@@ -6,6 +6,7 @@
 //! where a legal encoding stands is found by encoding.
 
 use super::named;
+use crate::checks::boundaries::boundary_values;
 use crate::checks::each_form;
 use crate::library::{JkDecoding, Linked};
 use crate::random::{draw, Drawn, Random};
@@ -18,6 +19,7 @@ use crate::report::{hex, told_decoding, Group};
 const TEXTS_OF_EACH_FORM: usize = 260_000;
 
 pub fn check(group: &mut Group) {
+    each_form!(joins(group));
     let mut tried = Tried::default();
     each_form!(drawn(group, &mut tried));
     each_form!(longest(group, &mut tried));
@@ -360,12 +362,25 @@ impl Joined for Ucs4 {
     }
 }
 
+/// The legal encoding of a value joins to it.
+fn joins<F: Joined>(group: &mut Group) {
+    let mut random = Random::new(0xD30 + F::LONGEST_ITEM as u64);
+    let drawn = (0..20_000).map(|_| F::value(&mut random));
+    for value in boundary_values().into_iter().chain(drawn) {
+        if let Some(legal) = F::encode(value) {
+            let joined = F::joined(&legal);
+            group.check(joined == value, || {
+                format!("{}: {value:X} joins to {joined:X}", named::<F>(&legal))
+            });
+        }
+    }
+}
+
 /// "A character is given at a place exactly when its legal encoding stands
 /// there." Tells of a place where it is not so.
 ///
-/// Units that are the legal encoding of a value join to it, and no others are
-/// its encoding; so the joined value of each number of units at each place is
-/// the only one to try.
+/// The legal encoding of a value joins to it; so the joined value of each number
+/// of units at each place is the only one to try.
 fn misplaced<F: Joined>(text: &[F::Unit], items: &[(u32, usize)]) -> Option<String> {
     let mut given_at = vec![MARK_VALUE; text.len()];
     for &(value, start) in items.iter().filter(|(value, _)| *value != MARK_VALUE) {
@@ -437,4 +452,57 @@ fn under_marks<F: Form>(text: &[F::Unit], items: &[(u32, usize)]) -> Result<usiz
         return Err(format!("an item starts beyond the text: {item:X?}"));
     }
     Ok(under_marks)
+}
+
+#[cfg(test)]
+mod tests {
+    use super::*;
+
+    /// A short sequence, 41, A9 and a trailing byte.
+    const TEXT: [u8; 6] = [0xE2, 0x89, 0x41, 0xC2, 0xA9, 0x80];
+    const RIGHT: [(u32, usize); 4] = [(MARK_VALUE, 0), (0x41, 2), (0xA9, 3), (MARK_VALUE, 5)];
+
+    #[test]
+    fn right_items_pass() {
+        assert_eq!(misplaced::<FssUtf>(&TEXT, &RIGHT), None);
+        assert_eq!(under_marks::<FssUtf>(&TEXT, &RIGHT), Ok(3));
+    }
+
+    #[test]
+    fn a_character_misplaced_is_seen() {
+        let change = |item: usize, changed: (u32, usize)| {
+            let mut items = RIGHT;
+            items[item] = changed;
+            misplaced::<FssUtf>(&TEXT, &items)
+        };
+        assert!(change(1, (MARK_VALUE, 2)).is_some());
+        assert!(change(1, (0x42, 2)).is_some());
+        assert!(change(1, (0x41, 1)).is_some());
+        assert!(change(2, (0xA9, 4)).is_some());
+        assert!(change(0, (0x241, 0)).is_some());
+        assert!(change(3, (0x0, 6)).is_some());
+        assert!(change(3, (0x0, 7)).is_some());
+        assert!(change(3, (0x8000_0000, 5)).is_some());
+        assert!(misplaced::<FssUtf>(&TEXT, &RIGHT[..2]).is_some());
+    }
+
+    #[test]
+    fn a_unit_under_no_mark_is_seen() {
+        let marks = |items: &[(u32, usize)]| under_marks::<FssUtf>(&TEXT, items);
+        assert!(marks(&[]).is_err());
+        assert!(marks(&RIGHT[1..]).is_err());
+        assert!(marks(&RIGHT[..3]).is_err());
+        assert!(marks(&[RIGHT[0], RIGHT[1], RIGHT[3]]).is_err());
+        assert!(marks(&[RIGHT[0], RIGHT[0], RIGHT[1], RIGHT[2], RIGHT[3]]).is_err());
+        assert!(marks(&[RIGHT[0], RIGHT[2], RIGHT[1], RIGHT[3]]).is_err());
+        let within = (MARK_VALUE, 4);
+        assert!(marks(&[RIGHT[0], RIGHT[1], RIGHT[2], within, RIGHT[3]]).is_err());
+        let beyond = (MARK_VALUE, 6);
+        assert!(marks(&[RIGHT[0], RIGHT[1], RIGHT[2], RIGHT[3], beyond]).is_err());
+        // A mark that takes the place of a character covers its units, but then
+        // the character is not given.
+        let all = [(MARK_VALUE, 0)];
+        assert_eq!(marks(&all), Ok(6));
+        assert!(misplaced::<FssUtf>(&TEXT, &all).is_some());
+    }
 }
