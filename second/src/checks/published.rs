@@ -1,5 +1,5 @@
-//! Every example and table of the source documents 000 to 004, read and
-//! converted to the other forms.
+//! Every example and table of the source documents 000 to 004, read item by item
+//! and mended, with its starts found, and converted to the other forms.
 //!
 //! Where a paper has a misprint, document 01 or the bit layout decides; the
 //! place is marked "Misprint" here.
