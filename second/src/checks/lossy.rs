@@ -11,7 +11,7 @@ use super::lent::Lent;
 use super::Told;
 use crate::library::{JkDecoding, Linked};
 use crate::random::Drawn;
-use crate::reference::{decode_lossy, given, Decoded, Form, Mended, Refusal, Ucs4};
+use crate::reference::{decode_lossy, given, Decoded, Form, Mended, Refusal, Ucs4, MARK_VALUE};
 use crate::report::{hex, told_decoding, Group};
 
 /// What a text with these items gives.
@@ -157,11 +157,32 @@ fn named<F: Form>(text: &[F::Unit]) -> String {
 
 fn told_mended(mended: &Mended) -> String {
     match mended {
-        Ok(decoded) => format!(
-            "values [{}] at {:?}",
-            hex::<Ucs4>(&decoded.values),
-            decoded.starts
-        ),
+        Ok(decoded) => told_items(&decoded.pairs()),
         Err(Refusal { fault, offset }) => format!("fault {fault} at {offset}"),
+    }
+}
+
+/// Values with their starts; the middle of a long list is left out.
+fn told_items(items: &[(u32, usize)]) -> String {
+    const ENDS: usize = 20;
+    let join = |items: &[(u32, usize)]| {
+        let items: Vec<String> = items
+            .iter()
+            .map(|&(value, start)| match value {
+                MARK_VALUE => format!("mark at {start}"),
+                _ => format!("{value:X} at {start}"),
+            })
+            .collect();
+        items.join(", ")
+    };
+    if items.len() <= 3 * ENDS {
+        format!("({})", join(items))
+    } else {
+        format!(
+            "({} .. {} items in all .. {})",
+            join(&items[..ENDS]),
+            items.len(),
+            join(&items[items.len() - ENDS..]),
+        )
     }
 }

@@ -21,6 +21,12 @@ impl Decoded {
         self.starts.push(start as u32);
     }
 
+    /// Each value with its start.
+    pub fn pairs(&self) -> Vec<(u32, usize)> {
+        let starts = self.starts.iter().map(|&start| start as usize);
+        self.values.iter().copied().zip(starts).collect()
+    }
+
     pub fn items(&self) -> usize {
         self.values.len()
     }

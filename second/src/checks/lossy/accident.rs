@@ -1,7 +1,7 @@
 //! The tender's accident: units of one alarm are lost, or of two where they
 //! meet, and no other character of either may be spoiled.
 
-use super::named;
+use super::{named, told_items};
 use crate::library::Linked;
 use crate::reference::{FssUtf, Ucs4, Utf16, UtfEbcdic, MARK_VALUE};
 use crate::report::{told_decoding, told_start, Group};
@@ -186,15 +186,18 @@ fn spared<F: Linked>(
         answer.fault == 0 && whole && within && answer.marks == marks as u64,
         || {
             format!(
-                "{}: came {} with {items:X?}, but {before:X?} and {after:X?} were not hit",
+                "{}: came {} with {}, but {} and {} were not hit",
                 source(),
                 told_decoding(answer),
+                told_items(&items),
+                told_items(before),
+                told_items(after),
             )
         },
     );
     // No remains, no mark; remains are never passed over.
     group.check(others.is_empty() == (from == to), || {
-        format!("{}: the remains gave {others:X?}", source())
+        format!("{}: the remains gave {}", source(), told_items(others))
     });
     if marks < others.len() {
         losses.joined += 1;

@@ -5,7 +5,7 @@
 //! are known by their drawing, the middle alone is asked of the library, and
 //! where a legal encoding stands is found by encoding.
 
-use super::named;
+use super::{named, told_items};
 use crate::checks::boundaries::boundary_values;
 use crate::checks::each_form;
 use crate::library::{JkDecoding, Linked};
@@ -209,23 +209,26 @@ fn read<F: Linked>(group: &mut Group, text: &[F::Unit]) -> Given {
     let mut values = vec![BEFORE; text.len()];
     let mut starts = vec![BEFORE; text.len()];
     let answer = F::decode_lossy(text, &mut values, &mut starts);
-    let items = (answer.items as usize).min(text.len());
-    let kept = |cells: &[u32]| cells[items..].iter().all(|&cell| cell == BEFORE);
-    let counted = answer == JkDecoding::of(Ok((items, answer.marks as usize)));
-    group.check(counted && kept(&values) && kept(&starts), || {
+    let count = (answer.items as usize).min(text.len());
+    let kept = |cells: &[u32]| cells[count..].iter().all(|&cell| cell == BEFORE);
+    let counted = answer == JkDecoding::of(Ok((count, answer.marks as usize)));
+    let kept = kept(&values) && kept(&starts);
+    let items: Vec<(u32, usize)> = values
+        .into_iter()
+        .zip(starts)
+        .take(count)
+        .map(|(value, start)| (value, start as usize))
+        .collect();
+    group.check(counted && kept, || {
         format!(
-            "mended reading of {}: came {}, with values {values:X?} and starts {starts:?}",
+            "mended reading of {}: came {} with {}; the other cells are {}",
             named::<F>(text),
             told_decoding(answer),
+            told_items(&items),
+            if kept { "untouched" } else { "changed" },
         )
     });
-    let items = values.into_iter().zip(starts).take(items);
-    Given {
-        answer,
-        items: items
-            .map(|(value, start)| (value, start as usize))
-            .collect(),
-    }
+    Given { answer, items }
 }
 
 /// Demand 3 of one text.
@@ -262,22 +265,22 @@ fn three_parts<F: Linked + Joined>(
         .flat_map(|&(items, before)| items.iter().map(move |&(value, at)| (value, at + before)));
     group.check(given.items.iter().copied().eq(expected), || {
         format!(
-            "{}: values and starts {:X?}, and of the middle alone {:X?}",
+            "{}: came {}, and of the middle alone {}",
             parts(),
-            given.items,
-            alone.items,
+            told_items(&given.items),
+            told_items(&alone.items),
         )
     });
 
     // "Items returned = characters of the first part + items of the middle
     // alone + characters of the last part. Marks returned = marks of the middle
     // alone."
-    let characters = first.characters.len() + last.characters.len();
-    let items = characters as u64 + alone.answer.items;
-    let marked = given.items.iter().filter(|(value, _)| *value == MARK_VALUE);
-    let counts = given.answer.items == items
+    let items = first.characters.len() + alone.items.len() + last.characters.len();
+    let is_mark = |item: &&(u32, usize)| item.0 == MARK_VALUE;
+    let marks = given.items.iter().filter(is_mark).count();
+    let counts = given.answer.items == items as u64
         && given.answer.marks == alone.answer.marks
-        && given.answer.marks == marked.count() as u64;
+        && given.answer.marks == marks as u64;
     group.check(counts, || {
         format!(
             "{}: {}, but of the middle alone {}",
@@ -299,8 +302,8 @@ fn three_parts<F: Linked + Joined>(
     tried.texts += 1;
     tried.units += whole.len();
     tried.units_under_marks += under_marks.unwrap_or(0);
-    tried.marks += alone.answer.marks as usize;
-    tried.unmarked += usize::from(alone.answer.marks == 0);
+    tried.marks += marks;
+    tried.unmarked += usize::from(marks == 0);
     let lengths = [first.units.len(), middle.len(), last.units.len()];
     for (empty, length) in tried.empty.iter_mut().zip(lengths) {
         *empty += usize::from(length == 0);
