@@ -1,5 +1,7 @@
 # Two commands do everything on a machine with the kit: `make listing` and `make test`.
-.PHONY: listing test check library
+.PHONY: listing test check library install
+
+PREFIX ?= /usr/local
 
 # Proves and builds the listing program, and lists a text with damage in it.
 listing:
@@ -17,3 +19,13 @@ check:
 # Builds target/staticlib/libjiskromet.a, for C and Rust to link.
 library:
 	rt staticlib jiskromet
+
+# Installs the archive, the header, a pkg-config file and the listing program below PREFIX (with DESTDIR before it, for packagers).
+install: library
+	rt check listing
+	install -d $(DESTDIR)$(PREFIX)/lib/pkgconfig $(DESTDIR)$(PREFIX)/include $(DESTDIR)$(PREFIX)/bin
+	install -m 644 target/staticlib/libjiskromet.a $(DESTDIR)$(PREFIX)/lib/libjiskromet.a
+	install -m 644 include/jiskromet.h $(DESTDIR)$(PREFIX)/include/jiskromet.h
+	sed 's|@PREFIX@|$(PREFIX)|' jiskromet.pc.in > $(DESTDIR)$(PREFIX)/lib/pkgconfig/jiskromet.pc
+	chmod 644 $(DESTDIR)$(PREFIX)/lib/pkgconfig/jiskromet.pc
+	install -m 755 target/bin/listing $(DESTDIR)$(PREFIX)/bin/jiskromet-listing

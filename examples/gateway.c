@@ -1,0 +1,86 @@
+/* A gateway's job: alarm lines in FSS-UTF come in, damaged ones among them; the maintenance host takes UTF-EBCDIC and the
+ * display panel UTF-16. For each line this prints the bytes for the host and the units for the panel. Where one of them
+ * refuses, it prints the fault with its place and, of a damaged line, what can still be shown.
+ *
+ *     gcc -I include examples/gateway.c target/staticlib/libjiskromet.a -o gateway
+ *     ./gateway < examples/alarms.txt
+ */
+#include <stdio.h>
+
+#include "jiskromet.h"
+
+/* One byte more than a conversion takes: a line too long is refused by fault 1. */
+enum { LONGEST_LINE = 65537 };
+
+static uint8_t line[LONGEST_LINE];
+static uint8_t host[3 * LONGEST_LINE / 2];
+static uint16_t panel[LONGEST_LINE];
+static uint32_t values[LONGEST_LINE];
+static uint32_t starts[LONGEST_LINE];
+
+/* Reads a line without its line feed, and passes over what does not fit. Returns 0 at the end of the input. */
+static int read_line(size_t *length) {
+    int c = getchar();
+    *length = 0;
+    if (c == EOF) return 0;
+    for (; c != EOF && c != '\n'; c = getchar())
+        if (*length < LONGEST_LINE) line[(*length)++] = (uint8_t)c;
+    return 1;
+}
+
+static const char *words(uint32_t fault) {
+    switch (fault) {
+    case JK_SOURCE_TOO_LONG: return "the line has more than 65,536 bytes";
+    case JK_MISSING_TRAILING: return "a character is cut short";
+    case JK_STRAY_TRAILING: return "a piece of a character stands alone";
+    case JK_INVALID_UNIT: return "no character has this byte";
+    case JK_OVERLONG: return "a character is spelled too long";
+    case JK_UNREPRESENTABLE: return "the panel cannot hold this character";
+    default: return "refused";
+    }
+}
+
+static void print_fault(const char *who, jk_conversion answer) {
+    printf("  %s: fault %u at byte %lu, %s\n", who, (unsigned)answer.fault, (unsigned long)answer.offset, words(answer.fault));
+}
+
+/* What is left of a damaged line: characters as they are, or as their value outside ASCII; each mark with its place. */
+static void show(size_t length) {
+    jk_decoding answer = jk_fss_utf_decode_lossy(line, length, values, LONGEST_LINE, starts, LONGEST_LINE);
+    if (answer.fault != JK_NO_FAULT) return; /* fault 1: nothing is read */
+    printf("  shown: ");
+    for (uint64_t i = 0; i < answer.items; i++) {
+        if (values[i] == JK_MARK_VALUE) printf("[damage at %lu]", (unsigned long)starts[i]);
+        else if (values[i] >= 0x20 && values[i] < 0x7F) putchar((int)values[i]);
+        else printf("<%lX>", (unsigned long)values[i]);
+    }
+    printf("\n");
+}
+
+int main(void) {
+    size_t length;
+    for (unsigned long number = 1; read_line(&length); number++) {
+        printf("line %lu, %lu bytes\n", number, (unsigned long)length);
+
+        jk_conversion to_host = jk_fss_utf_to_utf_ebcdic(line, length, host, sizeof host);
+        if (to_host.fault == JK_NO_FAULT) {
+            printf("  host:");
+            for (uint64_t i = 0; i < to_host.units; i++) printf(" %02X", (unsigned)host[i]);
+            printf("\n");
+        } else {
+            print_fault("host", to_host);
+        }
+
+        jk_conversion to_panel = jk_fss_utf_to_utf16(line, length, panel, LONGEST_LINE);
+        if (to_panel.fault == JK_NO_FAULT) {
+            printf("  panel:");
+            for (uint64_t i = 0; i < to_panel.units; i++) printf(" %04X", (unsigned)panel[i]);
+            printf("\n");
+        } else {
+            print_fault("panel", to_panel);
+        }
+
+        if (to_host.fault != JK_NO_FAULT) show(length);
+    }
+    return 0;
+}
