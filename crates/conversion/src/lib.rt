@@ -4,8 +4,8 @@
 // is as it was. `f_to_g_length` is document 01's measure: how many code units the text has in the other form. `specs/Conversion` of
 // `forms` says what each gives.
 use encoder::Target;
-use forms::Conversion;
 use tables::ByteForm;
+use types::Conversion;
 ghost use Rattle.forms.specs.Forms.{fssUtf, utfEbcdic, utf16, ucs4};
 ghost use Rattle.forms.specs.Conversion.{Measures, Converts};
 

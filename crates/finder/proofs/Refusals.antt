@@ -3,9 +3,9 @@ use Prim.Native.Nat.{ℕ, _≤_, _<_}
 use mathlib.Core.Path.{_≡_, sym, ap, _∙_}
 use mathlib.Core.List.{List}
 use lib.ListN.{length}
-use Rattle.forms.specs.declared.Fault.the-variants.{SourceTooLong, OffsetOutOfRange}
-use Rattle.forms.specs.declared.Refusal.{Refusal}
-use Rattle.forms.specs.declared.Start.the-variants.{Refused}
+use Rattle.types.specs.declared.Fault.the-variants.{SourceTooLong, OffsetOutOfRange}
+use Rattle.types.specs.declared.Refusal.{Refusal}
+use Rattle.types.specs.declared.Start.the-variants.{Refused}
 use Rattle.forms.specs.Fault.{limit, refusal}
 use Rattle.forms.specs.Form.{Form}
 use Rattle.forms.specs.Start.{itemStart}

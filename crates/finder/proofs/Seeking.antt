@@ -6,7 +6,7 @@ use native.Mathlib.Omega.{arith}
 use native.Mathlib.Numerals.{add-one}
 use borrow.Author.Tests.{le-leb, lt-leb}
 use lib.ListN.{length, getD, take, drop}
-use Rattle.forms.specs.declared.Start.the-variants.{At}
+use Rattle.types.specs.declared.Start.the-variants.{At}
 use Rattle.forms.specs.Fault.{limit}
 use Rattle.forms.specs.Form.{Role, lead, trailing, invalid, Form}
 use Rattle.forms.specs.Start.{itemStart}

@@ -7,7 +7,7 @@ use native.Mathlib.Omega.{arith}
 use native.Mathlib.Nat.{sub-zero}
 use borrow.Author.Tests.{le-leb}
 use lib.ListN.{length, getD, take}
-use Rattle.forms.specs.declared.Start.the-variants.{At}
+use Rattle.types.specs.declared.Start.the-variants.{At}
 use Rattle.forms.specs.Fault.{limit}
 use Rattle.forms.specs.Form.{Role, lead, trailing, invalid, Form, isTrailing}
 use Rattle.forms.specs.Layout.{roleOf}

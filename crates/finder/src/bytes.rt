@@ -1,7 +1,6 @@
 // FSS-UTF and UTF-EBCDIC.
-use forms::Refusal;
-use forms::Start;
 use tables::ByteForm;
+use types::Start;
 ghost use mathlib.Core.Path.{_≡_};
 ghost use Prim.Native.Nat.{_-_};
 ghost use lib.ListN.{length};
@@ -53,10 +52,10 @@ pub fn item_start(form: ByteForm, text: &[u8], offset: usize) -> Start
     ensures { λ r. ⌜ r ≡ itemStart (byteForm form) (now (text .entry)) offset ⌝ }
 {
     if 65536 < text.len() {
-        return Start::Refused(Refusal::source_too_long());
+        return Start::Refused(answers::source_too_long());
     }
     if text.len() <= offset {
-        return Start::Refused(Refusal::offset_out_of_range(offset));
+        return Start::Refused(answers::offset_out_of_range(offset));
     }
     let to = offset + 1;
     let from = back(to, longest(form));

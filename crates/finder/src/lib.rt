@@ -6,8 +6,8 @@ mod bytes;
 mod ucs4;
 mod utf16;
 
-use forms::Start;
 use tables::ByteForm;
+use types::Start;
 ghost use mathlib.Core.Path.{_≡_};
 ghost use Rattle.forms.specs.Forms.{fssUtf, utfEbcdic, utf16, ucs4};
 ghost use Rattle.forms.specs.Start.{itemStart};

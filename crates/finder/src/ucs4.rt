@@ -1,6 +1,5 @@
 // UCS-4: each code unit is an item.
-use forms::Refusal;
-use forms::Start;
+use types::Start;
 ghost use mathlib.Core.Path.{_≡_};
 ghost use Rattle.forms.specs.Forms.{ucs4};
 ghost use Rattle.forms.specs.Start.{itemStart};
@@ -9,10 +8,10 @@ pub fn item_start(text: &[u32], offset: usize) -> Start
     ensures { λ r. ⌜ r ≡ itemStart ucs4 (now (text .entry)) offset ⌝ }
 {
     if 65536 < text.len() {
-        return Start::Refused(Refusal::source_too_long());
+        return Start::Refused(answers::source_too_long());
     }
     if text.len() <= offset {
-        return Start::Refused(Refusal::offset_out_of_range(offset));
+        return Start::Refused(answers::offset_out_of_range(offset));
     }
     Start::At(offset)
 }

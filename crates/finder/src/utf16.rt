@@ -1,6 +1,5 @@
 // UTF-16.
-use forms::Refusal;
-use forms::Start;
+use types::Start;
 ghost use mathlib.Core.Path.{_≡_};
 ghost use Rattle.forms.specs.Forms.{utf16};
 ghost use Rattle.forms.specs.Start.{itemStart};
@@ -9,10 +8,10 @@ pub fn item_start(text: &[u16], offset: usize) -> Start
     ensures { λ r. ⌜ r ≡ itemStart utf16 (now (text .entry)) offset ⌝ }
 {
     if 65536 < text.len() {
-        return Start::Refused(Refusal::source_too_long());
+        return Start::Refused(answers::source_too_long());
     }
     if text.len() <= offset {
-        return Start::Refused(Refusal::offset_out_of_range(offset));
+        return Start::Refused(answers::offset_out_of_range(offset));
     }
     let unit = text[offset];
     if unit < 0xDC00 {

@@ -7,21 +7,21 @@ use mathlib.Core.Option.{Option, none, some}
 use native.Mathlib.Omega.{arith}
 use borrow.Author.Tests.{lt-ltb, le-ltb}
 use lib.ListN.{length, drop}
-use Rattle.forms.specs.declared.Fault.{Fault}
-use Rattle.forms.specs.declared.Fault.the-variants.{SourceTooLong, MissingTrailing, StrayTrailing, InvalidUnit, Overlong, Unrepresentable, BufferTooShort, ValueTooLarge, OffsetOutOfRange}
-use Rattle.forms.specs.declared.Item.{Item}
-use Rattle.forms.specs.declared.Item.the-variants.{Character, Mark}
-use Rattle.forms.specs.declared.Conversion.{Conversion}
-use Rattle.forms.specs.declared.Conversion.the-variants.{Units, Refused}
-use Rattle.forms.specs.declared.Start.{Start}
+use Rattle.types.specs.declared.Fault.{Fault}
+use Rattle.types.specs.declared.Fault.the-variants.{SourceTooLong, MissingTrailing, StrayTrailing, InvalidUnit, Overlong, Unrepresentable, BufferTooShort, ValueTooLarge, OffsetOutOfRange}
+use Rattle.types.specs.declared.Item.{Item}
+use Rattle.types.specs.declared.Item.the-variants.{Character, Mark}
+use Rattle.types.specs.declared.Conversion.{Conversion}
+use Rattle.types.specs.declared.Conversion.the-variants.{Units, Refused}
+use Rattle.types.specs.declared.Start.{Start}
 use Rattle.forms.specs.Fault.{limit, refusal}
 use Rattle.forms.specs.Form.{units, Form, sequences, span, spanOf, items, encode, encodeAll, AllEncodable, WellFormed, OccursAt}
 use Rattle.forms.specs.Layout.{formOf}
 use Rattle.forms.specs.Exchange.{ebcdicOf}
 use Rattle.forms.specs.Forms.{byteLayout, fssUtf, i8, utfEbcdic, utf16, ucs4}
 use Rattle.forms.specs.Flags.{flagOf}
-use Rattle.forms.specs.declared.Decoding.the-variants as Decoding
-use Rattle.forms.specs.declared.Decoding.the-variants.{Decoded}
+use Rattle.types.specs.declared.Decoding.the-variants as Decoding
+use Rattle.types.specs.declared.Decoding.the-variants.{Decoded}
 use Rattle.forms.specs.Lossy as Lossy
 use Rattle.forms.specs.Lossy.{lossy, counts, valuesIn, startsIn}
 use Rattle.forms.specs.Buffer.{withUnits, Holds}
@@ -233,6 +233,9 @@ cut = 0x41 ∷ 0xE2 ∷ 0x89 ∷ 0x42 ∷ []
 pub decoded-answers :
     map (λ n. Lossy.answerOf (lossy fssUtf cut 3 n)) (2 ∷ 3 ∷ 4 ∷ []) ≡ Decoding.Refused (refusal BufferTooShort 0) ∷ Decoded (counts 3 1) ∷ Decoded (counts 3 1) ∷ []
 decoded-answers = refl
+
+pub counted-items : (counts 3 1) .items ≡ 3
+counted-items = refl
 
 pub decoded-short : Lossy.answerOf (lossy fssUtf cut 2 3) ≡ Decoding.Refused (refusal BufferTooShort 0)
 decoded-short = refl

@@ -1,8 +1,8 @@
 -- Document 01, "Fault numbers".
 use Prim.Native.Nat.{ℕ}
-use Rattle.forms.specs.declared.Fault.{Fault}
-use Rattle.forms.specs.declared.Fault.the-variants.{SourceTooLong, MissingTrailing, StrayTrailing, InvalidUnit, Overlong, Unrepresentable, BufferTooShort, ValueTooLarge, OffsetOutOfRange}
-use Rattle.forms.specs.declared.Refusal.{Refusal}
+use Rattle.types.specs.declared.Fault.{Fault}
+use Rattle.types.specs.declared.Fault.the-variants.{SourceTooLong, MissingTrailing, StrayTrailing, InvalidUnit, Overlong, Unrepresentable, BufferTooShort, ValueTooLarge, OffsetOutOfRange}
+use Rattle.types.specs.declared.Refusal.{Refusal}
 
 abbrev pub numberOf : Fault → ℕ
 numberOf SourceTooLong = 1

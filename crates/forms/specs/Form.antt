@@ -7,11 +7,11 @@ use mathlib.Core.List.{List, [], _∷_, _++_}
 use mathlib.Core.Option.{Option, none, some}
 use lib.ListN.{length, drop}
 use lib.Dec.{ltb, eqb}
-use Rattle.forms.specs.declared.Fault.{Fault}
-use Rattle.forms.specs.declared.Fault.the-variants.{MissingTrailing, StrayTrailing, InvalidUnit, Overlong}
-use Rattle.forms.specs.declared.Span.{Span}
-use Rattle.forms.specs.declared.Item.{Item}
-use Rattle.forms.specs.declared.Item.the-variants.{Character, Mark}
+use Rattle.types.specs.declared.Fault.{Fault}
+use Rattle.types.specs.declared.Fault.the-variants.{MissingTrailing, StrayTrailing, InvalidUnit, Overlong}
+use Rattle.types.specs.declared.Span.{Span}
+use Rattle.types.specs.declared.Item.{Item}
+use Rattle.types.specs.declared.Item.the-variants.{Character, Mark}
 
 -- what a code unit does: it leads so many trailing units (none: it stands alone), it trails, or it does neither
 pub data Role : Type 0 where

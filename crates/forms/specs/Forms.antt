@@ -5,8 +5,8 @@ use mathlib.Core.List.{List, [], _∷_}
 use mathlib.Core.Option.{Option, none, some}
 use lib.ListN.{take}
 use lib.Dec.{ltb}
-use Rattle.forms.specs.declared.Fault.{Fault}
-use Rattle.forms.specs.declared.Fault.the-variants.{Unrepresentable, ValueTooLarge}
+use Rattle.types.specs.declared.Fault.{Fault}
+use Rattle.types.specs.declared.Fault.the-variants.{Unrepresentable, ValueTooLarge}
 use Rattle.forms.specs.Form.{Form}
 use Rattle.forms.specs.Layout.{Row, row, Layout, within, formOf, exchanged}
 use Rattle.forms.specs.Exchange.{i8Of, ebcdicOf}

@@ -5,7 +5,7 @@ use mathlib.Core.List.{List, [], _∷_, map}
 use mathlib.Core.Option.{Option}
 use lib.ListN.{length, getD}
 use lib.Dec.{leb, ltb}
-use Rattle.forms.specs.declared.Fault.{Fault}
+use Rattle.types.specs.declared.Fault.{Fault}
 use Rattle.forms.specs.Form.{Role, lead, trailing, invalid, Sequence, sequence, Form}
 
 -- the leads of one length, and the value of the first of them with digits of 0

@@ -5,13 +5,13 @@ use mathlib.Core.Bool.{cond, _||_}
 use mathlib.Core.List.{List, [], _∷_, _++_, map}
 use lib.ListN.{length, drop}
 use lib.Dec.{ltb}
-use Rattle.forms.specs.declared.Fault.the-variants.{SourceTooLong, BufferTooShort}
-use Rattle.forms.specs.declared.Item.{Item}
-use Rattle.forms.specs.declared.Item.the-variants.{Character, Mark}
-use Rattle.forms.specs.declared.Refusal.{Refusal}
-use Rattle.forms.specs.declared.Counts.{Counts}
-use Rattle.forms.specs.declared.Decoding.{Decoding}
-use Rattle.forms.specs.declared.Decoding.the-variants.{Decoded, Refused}
+use Rattle.types.specs.declared.Fault.the-variants.{SourceTooLong, BufferTooShort}
+use Rattle.types.specs.declared.Item.{Item}
+use Rattle.types.specs.declared.Item.the-variants.{Character, Mark}
+use Rattle.types.specs.declared.Refusal.{Refusal}
+use Rattle.types.specs.declared.Counts.{Counts}
+use Rattle.types.specs.declared.Decoding.{Decoding}
+use Rattle.types.specs.declared.Decoding.the-variants.{Decoded, Refused}
 use Rattle.forms.specs.Fault.{limit, refusal}
 use Rattle.forms.specs.Form.{Form, spanOf, items}
 

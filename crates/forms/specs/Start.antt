@@ -5,11 +5,11 @@ use mathlib.Core.List.{List, [], _∷_}
 use mathlib.Core.Option.{Option, none, some}
 use lib.ListN.{length}
 use lib.Dec.{ltb}
-use Rattle.forms.specs.declared.Fault.the-variants.{SourceTooLong, OffsetOutOfRange}
-use Rattle.forms.specs.declared.Span.{Span}
-use Rattle.forms.specs.declared.Item.{Item}
-use Rattle.forms.specs.declared.Start.{Start}
-use Rattle.forms.specs.declared.Start.the-variants.{At, Refused}
+use Rattle.types.specs.declared.Fault.the-variants.{SourceTooLong, OffsetOutOfRange}
+use Rattle.types.specs.declared.Span.{Span}
+use Rattle.types.specs.declared.Item.{Item}
+use Rattle.types.specs.declared.Start.{Start}
+use Rattle.types.specs.declared.Start.the-variants.{At, Refused}
 use Rattle.forms.specs.Fault.{limit, refusal}
 use Rattle.forms.specs.Form.{Form, spanOf, items}
 

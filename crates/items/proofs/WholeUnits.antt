@@ -9,8 +9,8 @@ use native.Mathlib.Numerals.{add-one}
 use lib.ListN.{length, getD, drop, drop-of-length-le}
 use lib.Seq.{drop-cons}
 use borrow.Author.Tests.{le-ltb}
-use Rattle.forms.specs.declared.Fault.the-variants.{MissingTrailing, StrayTrailing, InvalidUnit}
-use Rattle.forms.specs.declared.Item.the-variants.{Character, Mark}
+use Rattle.types.specs.declared.Fault.the-variants.{MissingTrailing, StrayTrailing, InvalidUnit}
+use Rattle.types.specs.declared.Item.the-variants.{Character, Mark}
 use Rattle.forms.specs.Form.{Role, lead, trailing, invalid, sequence, Form, isTrailing, taken, firstOf, span, itemOf}
 use Rattle.forms.specs.Layout.{Layout, roleOf, valueOf, rowLimit, formOf}
 use Rattle.forms.specs.Forms.{utf16Layout, ucs4Layout, utf16, ucs4}

@@ -3,7 +3,7 @@ use Prim.Native.Nat.{ℕ, _+_, _*_, _^_}
 use mathlib.Core.Path.{_≡_}
 use mathlib.Core.List.{List}
 use lib.ListN.{length, getD, drop}
-use Rattle.forms.specs.declared.Item.{Item}
+use Rattle.types.specs.declared.Item.{Item}
 use Rattle.forms.specs.Form.{Form, firstOf, itemOf}
 
 abbrev pub itemAt : Form → List ℕ → ℕ → Item

@@ -1,8 +1,8 @@
 // FSS-UTF and UTF-EBCDIC.
-use forms::Fault;
-use forms::Item;
-use forms::Span;
 use tables::ByteForm;
+use types::Fault;
+use types::Item;
+use types::Span;
 ghost use mathlib.Core.Path.{_≡_};
 ghost use mathlib.Core.List.{map};
 ghost use Prim.Native.Nat.{_+_, _*_, _^_, _<_, _≤_};

@@ -1,7 +1,7 @@
 // UCS-4.
-use forms::Fault;
-use forms::Item;
-use forms::Span;
+use types::Fault;
+use types::Item;
+use types::Span;
 ghost use mathlib.Core.Path.{_≡_};
 ghost use Prim.Native.Nat.{_<_};
 ghost use lib.ListN.{length};

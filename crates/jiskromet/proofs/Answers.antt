@@ -2,10 +2,10 @@
 use Prim.Native.Nat.{ℕ}
 use mathlib.Core.Path.{_≡_, sym, ap, _∙_}
 use mathlib.Core.List.{List}
-use Rattle.forms.specs.declared.Conversion.{Conversion}
+use Rattle.types.specs.declared.Conversion.{Conversion}
 use Rattle.forms.specs.Form.{Form}
 use Rattle.forms.specs.Conversion.{Measures, Converts}
-use Rattle.forms.specs.declared.Decoding.{Decoding}
+use Rattle.types.specs.declared.Decoding.{Decoding}
 use Rattle.lossy.specs.Demand3.{DecodesLossy}
 use Rattle.jiskromet.specs.declared.JkConversion.{JkConversion}
 use Rattle.jiskromet.specs.declared.JkDecoding.{JkDecoding}

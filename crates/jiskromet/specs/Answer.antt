@@ -3,16 +3,16 @@ use Prim.Native.Nat.{ℕ}
 use mathlib.Core.Path.{_≡_}
 use mathlib.Core.List.{List}
 use lib.ListN.{length}
-use Rattle.forms.specs.declared.Item.{Item}
-use Rattle.forms.specs.declared.Item.the-variants.{Character, Mark}
-use Rattle.forms.specs.declared.Refusal.{Refusal}
-use Rattle.forms.specs.declared.Conversion.{Conversion}
-use Rattle.forms.specs.declared.Conversion.the-variants.{Units, Refused as NoUnits}
-use Rattle.forms.specs.declared.Counts.{Counts}
-use Rattle.forms.specs.declared.Decoding.{Decoding}
-use Rattle.forms.specs.declared.Decoding.the-variants.{Decoded, Refused as NotDecoded}
-use Rattle.forms.specs.declared.Start.{Start}
-use Rattle.forms.specs.declared.Start.the-variants.{At, Refused as NoStart}
+use Rattle.types.specs.declared.Item.{Item}
+use Rattle.types.specs.declared.Item.the-variants.{Character, Mark}
+use Rattle.types.specs.declared.Refusal.{Refusal}
+use Rattle.types.specs.declared.Conversion.{Conversion}
+use Rattle.types.specs.declared.Conversion.the-variants.{Units, Refused as NoUnits}
+use Rattle.types.specs.declared.Counts.{Counts}
+use Rattle.types.specs.declared.Decoding.{Decoding}
+use Rattle.types.specs.declared.Decoding.the-variants.{Decoded, Refused as NotDecoded}
+use Rattle.types.specs.declared.Start.{Start}
+use Rattle.types.specs.declared.Start.the-variants.{At, Refused as NoStart}
 use Rattle.forms.specs.Fault.{numberOf}
 use Rattle.forms.specs.Form.{Form}
 use Rattle.forms.specs.Conversion.{outcome, strict, answerOf, cellsOf}

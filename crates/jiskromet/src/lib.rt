@@ -5,13 +5,13 @@ pub mod conversions;
 pub mod decodings;
 pub mod starts;
 
-use forms::Conversion;
-use forms::Decoding;
-use forms::Item;
-use forms::Refusal;
-use forms::Start;
 use reader::Cursor;
 use reader::Step;
+use types::Conversion;
+use types::Decoding;
+use types::Item;
+use types::Refusal;
+use types::Start;
 ghost use mathlib.Core.Path.{_≡_};
 ghost use Rattle.forms.specs.Forms.{fssUtf, utfEbcdic, utf16, ucs4};
 ghost use Rattle.reader.specs.Step.{cursor, stepAt};
@@ -87,7 +87,7 @@ fn shown_item(item: Item) -> JkItem
         },
         Item::Mark(fault, span) => JkItem {
             kind: 2,
-            fault: forms::number(fault),
+            fault: answers::number(fault),
             value: 0,
             offset: span.offset as u64,
             length: span.length as u64,
@@ -101,7 +101,7 @@ fn refused_item(refusal: Refusal) -> JkItem
     let fault = refusal.fault;
     JkItem {
         kind: 3,
-        fault: forms::number(fault),
+        fault: answers::number(fault),
         value: 0,
         offset: refusal.offset as u64,
         length: 0,
@@ -133,7 +133,7 @@ fn refused_conversion(refusal: Refusal) -> JkConversion
 {
     let fault = refusal.fault;
     JkConversion {
-        fault: forms::number(fault),
+        fault: answers::number(fault),
         offset: refusal.offset as u64,
         units: 0,
     }
@@ -166,7 +166,7 @@ fn refused_decoding(refusal: Refusal) -> JkDecoding
 {
     let fault = refusal.fault;
     JkDecoding {
-        fault: forms::number(fault),
+        fault: answers::number(fault),
         offset: refusal.offset as u64,
         items: 0,
         marks: 0,
@@ -198,7 +198,7 @@ fn refused_start(refusal: Refusal) -> JkStart
 {
     let fault = refusal.fault;
     JkStart {
-        fault: forms::number(fault),
+        fault: answers::number(fault),
         offset: refusal.offset as u64,
         start: 0,
     }

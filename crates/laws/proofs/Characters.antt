@@ -10,11 +10,11 @@ use native.Mathlib.Nat.{add-assoc, add-zero}
 use lib.Dec.{eqb}
 use borrow.Author.Tests.{eq-eqb, eqb-true}
 use lib.ListN.{length, drop, length-append}
-use Rattle.forms.specs.declared.Fault.{Fault}
-use Rattle.forms.specs.declared.Item.{Item}
-use Rattle.forms.specs.declared.Item.the-variants.{Character, Mark}
-use Rattle.forms.specs.declared.Span.{Span}
-use Rattle.forms.specs.declared.Refusal.{Refusal}
+use Rattle.types.specs.declared.Fault.{Fault}
+use Rattle.types.specs.declared.Item.{Item}
+use Rattle.types.specs.declared.Item.the-variants.{Character, Mark}
+use Rattle.types.specs.declared.Span.{Span}
+use Rattle.types.specs.declared.Refusal.{Refusal}
 use Rattle.forms.specs.Form.{Role, lead, trailing, invalid, Sequence, sequence, units, size, Form, asked, firstOf, sequencesAfter, sequences, Content, character, mark, fullContent, contentAs, content, span, withSpan, itemOf, itemsFrom, items, unless, encode, encodeAll, AllEncodable}
 use Rattle.forms.specs.Conversion.{Outcome, converted, refused, encoding, refusalAt, prepend, put, convertItems}
 use Rattle.laws.proofs.Sequences.{Full, AllTrailing, joined, taken-trailing, sequences-full, sequences-joined}

@@ -10,11 +10,11 @@ use native.Mathlib.Decide.{decLt}
 use borrow.Author.Tests.{le-ltb, lt-ltb}
 use lib.Dec.{eqb}
 use lib.ListN.{length}
-use Rattle.forms.specs.declared.Fault.{Fault}
-use Rattle.forms.specs.declared.Fault.the-variants.{SourceTooLong, MissingTrailing, StrayTrailing, InvalidUnit, Overlong, Unrepresentable, BufferTooShort}
-use Rattle.forms.specs.declared.Span.{Span}
-use Rattle.forms.specs.declared.Item.{Item}
-use Rattle.forms.specs.declared.Refusal.{Refusal}
+use Rattle.types.specs.declared.Fault.{Fault}
+use Rattle.types.specs.declared.Fault.the-variants.{SourceTooLong, MissingTrailing, StrayTrailing, InvalidUnit, Overlong, Unrepresentable, BufferTooShort}
+use Rattle.types.specs.declared.Span.{Span}
+use Rattle.types.specs.declared.Item.{Item}
+use Rattle.types.specs.declared.Refusal.{Refusal}
 use Rattle.forms.specs.Fault.{numberOf, limit, refusal}
 use Rattle.forms.specs.Form.{Role, lead, trailing, invalid, Sequence, size, Form, sequences, Content, character, mark, overlong, carried, fullContent, contentAs, content, span, withSpan, itemsFrom, items}
 use Rattle.laws.proofs.Outcomes.{outcomes-differ, refused-same, converted-same}

@@ -8,8 +8,8 @@ use mathlib.Core.Option.{Option, none, some}
 use native.Mathlib.Omega.{arith}
 use lib.Dec.{ltb, eqb}
 use lib.ListN.{length, length-map}
-use Rattle.forms.specs.declared.Fault.{Fault}
-use Rattle.forms.specs.declared.Item.{Item}
+use Rattle.types.specs.declared.Fault.{Fault}
+use Rattle.types.specs.declared.Item.{Item}
 use Rattle.forms.specs.Form.{Role, lead, trailing, invalid, Sequence, sequence, units, size, Form, asked, isTrailing, taken, firstOf, sequencesAfter, sequences, Content, character, mark, isShorter, overlong, carried, fullContent, contentAs, content, withSpan, span, itemOf, itemsFrom, items, unless, encode}
 use Rattle.forms.specs.Layout.{exchanged}
 use Rattle.laws.proofs.Sequences.{Full, AllTrailing, same-units}

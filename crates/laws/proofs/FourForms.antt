@@ -8,8 +8,8 @@ use native.Mathlib.Nat.{div-one}
 use native.Mathlib.Decide.{decLt}
 use lib.Dec.{ltb}
 use borrow.Author.Tests.{ltb-false}
-use Rattle.forms.specs.declared.Fault.{Fault}
-use Rattle.forms.specs.declared.Fault.the-variants.{Unrepresentable}
+use Rattle.types.specs.declared.Fault.{Fault}
+use Rattle.types.specs.declared.Fault.the-variants.{Unrepresentable}
 use Rattle.forms.specs.Form.{Role, lead, trailing, invalid}
 use Rattle.forms.specs.Layout.{Layout, roleOf, rowAt, rowLimit}
 use Rattle.forms.specs.Exchange.{i8Of, ebcdicOf}

@@ -6,8 +6,8 @@ use native.Mathlib.Omega.{arith}
 use native.Mathlib.Numerals.{add-one}
 use lib.ListN.{length, getD, drop, length-drop, drop-of-length-le}
 use lib.Seq.{drop-cons, drop-drop}
-use Rattle.forms.specs.declared.Item.{Item}
-use Rattle.forms.specs.declared.Span.{Span}
+use Rattle.types.specs.declared.Item.{Item}
+use Rattle.types.specs.declared.Span.{Span}
 use Rattle.forms.specs.Form.{Sequence, size, Form, firstOf, sequences, spanOf, itemOf, itemsFrom}
 use Rattle.laws.proofs.Sequences.{sequences-after}
 use Rattle.laws.proofs.Spans.{item-span, size-within}

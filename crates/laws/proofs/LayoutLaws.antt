@@ -11,7 +11,7 @@ use native.Mathlib.Decide.{decLt, decLe}
 use lib.Dec.{leb, ltb}
 use borrow.Author.Tests.{ltb-true, ltb-false, lt-ltb, le-ltb, le-leb, lt-leb}
 use lib.ListN.{length, getD}
-use Rattle.forms.specs.declared.Fault.{Fault}
+use Rattle.types.specs.declared.Fault.{Fault}
 use Rattle.forms.specs.Form.{Role, lead, trailing, invalid, Sequence, sequence, units, Form, isTrailing, Content, character, mark, isShorter, overlong, carried, fullContent, unless, encode}
 use Rattle.forms.specs.Layout.{Row, row, Layout, leadIn, roleOf, rowAt, number, valueOf, limitOf, rowLimit, lowestOf, digits, spelled, shortestIn, formOf}
 use Rattle.laws.proofs.Sequences.{Full, AllTrailing, same-units}

@@ -3,7 +3,7 @@ use Prim.Native.Nat.{ℕ}
 use mathlib.Core.Path.{_≡_}
 use mathlib.Core.List.{List}
 use native.Mathlib.Omega.{arith}
-use Rattle.forms.specs.declared.Refusal.{Refusal}
+use Rattle.types.specs.declared.Refusal.{Refusal}
 use Rattle.forms.specs.Conversion.{Outcome, converted, refused}
 
 pub outcomes-differ : {A : Type 0} {es : List ℕ} {r : Refusal} → refused r ≡ converted es → A

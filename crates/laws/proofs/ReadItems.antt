@@ -4,8 +4,8 @@ use mathlib.Core.Path.{_≡_, refl, sym, ap, _∙_}
 use mathlib.Core.List.{List, [], _∷_, _++_, append-assoc, append-nil}
 use native.Mathlib.Omega.{arith}
 use lib.ListN.{length, length-append}
-use Rattle.forms.specs.declared.Span.{Span}
-use Rattle.forms.specs.declared.Item.{Item}
+use Rattle.types.specs.declared.Span.{Span}
+use Rattle.types.specs.declared.Item.{Item}
 use Rattle.forms.specs.Form.{Form, size, spanOf, itemOf, items}
 use Rattle.laws.proofs.Items.{itemsOnward, sequenceAt, items-end, items-step, length-at, offset-at, within-at}
 

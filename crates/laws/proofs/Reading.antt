@@ -9,9 +9,9 @@ use native.Mathlib.Numerals.{add-one}
 use lib.Dec.{ltb, eqb}
 use borrow.Author.Tests.{eq-eqb, ne-eqb, lt-ltb, le-ltb}
 use lib.ListN.{length}
-use Rattle.forms.specs.declared.Fault.the-variants.{MissingTrailing, StrayTrailing, InvalidUnit, Overlong}
-use Rattle.forms.specs.declared.Item.{Item}
-use Rattle.forms.specs.declared.Item.the-variants.{Character, Mark}
+use Rattle.types.specs.declared.Fault.the-variants.{MissingTrailing, StrayTrailing, InvalidUnit, Overlong}
+use Rattle.types.specs.declared.Item.{Item}
+use Rattle.types.specs.declared.Item.the-variants.{Character, Mark}
 use Rattle.forms.specs.Form.{Role, lead, trailing, invalid, Sequence, sequence, Form, taken, firstOf, overlong, fullContent, span, withSpan, itemOf}
 use Rattle.forms.specs.Layout.{Layout, valueOf, rowLimit, lowestOf, formOf}
 use Rattle.laws.proofs.Sequences.{Full, taken-trailing}

@@ -10,9 +10,9 @@ use native.Mathlib.Nat.{mul-add, add-mul, le-div-iff-mul-le}
 use lib.Dec.{leb}
 use borrow.Author.Tests.{leb-true}
 use lib.ListN.{length, length-append, length-map}
-use Rattle.forms.specs.declared.Fault.{Fault}
-use Rattle.forms.specs.declared.Conversion.{Conversion}
-use Rattle.forms.specs.declared.Conversion.the-variants.{Units}
+use Rattle.types.specs.declared.Fault.{Fault}
+use Rattle.types.specs.declared.Conversion.{Conversion}
+use Rattle.types.specs.declared.Conversion.the-variants.{Units}
 use Rattle.forms.specs.Form.{Form, unless, encode, encodeAll, AllEncodable}
 use Rattle.forms.specs.Layout.{Layout, rowLimit, lowestOf, formOf}
 use Rattle.forms.specs.Exchange.{i8Of, ebcdicOf}

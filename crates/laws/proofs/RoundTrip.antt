@@ -5,8 +5,8 @@ use mathlib.Core.List.{List, _++_}
 use native.Mathlib.Omega.{arith}
 use borrow.Author.Tests.{le-ltb}
 use lib.ListN.{length, take, drop}
-use Rattle.forms.specs.declared.Conversion.{Conversion}
-use Rattle.forms.specs.declared.Conversion.the-variants.{Units}
+use Rattle.types.specs.declared.Conversion.{Conversion}
+use Rattle.types.specs.declared.Conversion.the-variants.{Units}
 use Rattle.forms.specs.Fault.{limit}
 use Rattle.forms.specs.Form.{Form, items}
 use Rattle.forms.specs.Conversion.{Outcome, converted, convertItems, inRoom, strict, answerOf, cellsOf, Converts}

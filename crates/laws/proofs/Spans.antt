@@ -4,7 +4,7 @@ use mathlib.Core.Path.{_≡_, refl}
 use mathlib.Core.List.{List, [], _∷_}
 use native.Mathlib.Omega.{arith}
 use lib.ListN.{length, drop, length-drop}
-use Rattle.forms.specs.declared.Span.{Span}
+use Rattle.types.specs.declared.Span.{Span}
 use Rattle.forms.specs.Form.{Role, lead, trailing, invalid, Sequence, size, Form, asked, taken, firstOf, Content, character, mark, content, span, withSpan, spanOf, itemOf}
 use Rattle.laws.proofs.Sequences.{taken-length, taken-most}
 use Rattle.laws.proofs.FormLaws.{Laws}

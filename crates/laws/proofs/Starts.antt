@@ -11,10 +11,10 @@ use native.Mathlib.Decide.{decLt}
 use lib.Dec.{ltb}
 use borrow.Author.Tests.{lt-ltb, le-ltb}
 use lib.ListN.{length, getD, length-append}
-use Rattle.forms.specs.declared.Fault.the-variants.{SourceTooLong, OffsetOutOfRange}
-use Rattle.forms.specs.declared.Span.{Span}
-use Rattle.forms.specs.declared.Item.{Item}
-use Rattle.forms.specs.declared.Start.the-variants.{At, Refused}
+use Rattle.types.specs.declared.Fault.the-variants.{SourceTooLong, OffsetOutOfRange}
+use Rattle.types.specs.declared.Span.{Span}
+use Rattle.types.specs.declared.Item.{Item}
+use Rattle.types.specs.declared.Start.the-variants.{At, Refused}
 use Rattle.forms.specs.Fault.{limit, refusal}
 use Rattle.forms.specs.Form.{Sequence, size, Form, sequences, spanOf, itemOf, itemsFrom, items}
 use Rattle.forms.specs.Forms.{fssUtf, utfEbcdic, utf16, ucs4}

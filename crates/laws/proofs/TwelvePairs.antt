@@ -9,9 +9,9 @@ use native.Mathlib.Nat.{le-div-iff-mul-le}
 use lib.Dec.{ltb}
 use borrow.Author.Tests.{le-ltb}
 use lib.ListN.{length, take}
-use Rattle.forms.specs.declared.Fault.{Fault}
-use Rattle.forms.specs.declared.Fault.the-variants.{Unrepresentable, ValueTooLarge}
-use Rattle.forms.specs.declared.Conversion.the-variants.{Units}
+use Rattle.types.specs.declared.Fault.{Fault}
+use Rattle.types.specs.declared.Fault.the-variants.{Unrepresentable, ValueTooLarge}
+use Rattle.types.specs.declared.Conversion.the-variants.{Units}
 use Rattle.forms.specs.Fault.{limit}
 use Rattle.forms.specs.Form.{Form, encodeAll, AllEncodable}
 use Rattle.forms.specs.Layout.{Layout}

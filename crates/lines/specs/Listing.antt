@@ -2,9 +2,9 @@
 use Prim.Native.Nat.{ℕ, zero, suc, _+_}
 use mathlib.Core.List.{List, [], _∷_, _++_}
 use lib.ListN.{length, take}
-use Rattle.forms.specs.declared.Item.{Item}
-use Rattle.forms.specs.declared.Item.the-variants.{Character, Mark}
-use Rattle.forms.specs.declared.Span.{Span}
+use Rattle.types.specs.declared.Item.{Item}
+use Rattle.types.specs.declared.Item.the-variants.{Character, Mark}
+use Rattle.types.specs.declared.Span.{Span}
 use Rattle.forms.specs.Fault.{numberOf}
 use Rattle.forms.specs.Form.{spanOf, items}
 use Rattle.forms.specs.Forms.{fssUtf}

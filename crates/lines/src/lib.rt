@@ -1,9 +1,9 @@
 // The lines of the listing program: `listing` renders the items of a text, and `specs/Listing` says what it prints.
 mod line;
 
-use forms::Item;
 use line::Line;
 use tables::ByteForm;
+use types::Item;
 ghost use mathlib.Core.Path.{_≡_};
 ghost use Prim.Native.Nat.{_+_, _<_, _≤_};
 ghost use lib.ListN.{length};
@@ -34,10 +34,10 @@ fn list(text: &[u8], out: &mut [u8]) -> usize
     let mut marks: usize = 0;
     while at < text.len() {
         let item = items::bytes::item_at(ByteForm::FssUtf, text, at);
-        let span = item.span();
+        let span = answers::span(item);
         written = put(out, written, item_line(item));
         count += 1;
-        marks += item.mark_count();
+        marks += answers::mark_count(item);
         at += span.length;
     }
     put(out, written, total_line(count, marks))
@@ -67,7 +67,7 @@ fn item_line(item: Item) -> Line
     requires { ⌜ ((spanOf item) .offset < 10000) × ((spanOf item) .length < 10) ⌝ }
     ensures { λ r. ⌜ (textOf r ≡ line item) × (r .length ≤ 18) ⌝ }
 {
-    let span = item.span();
+    let span = answers::span(item);
     let placed = Line::new()
         .push_decimal(span.offset)
         .push(b' ')
@@ -77,7 +77,7 @@ fn item_line(item: Item) -> Line
         Item::Character(value, _) => placed.push_text(b"U+").push_hex(8, value).push(b'\n'),
         Item::Mark(fault, _) => placed
             .push_text(b"fault ")
-            .push_decimal(forms::number(fault) as usize)
+            .push_decimal(answers::number(fault) as usize)
             .push(b'\n'),
     }
 }

@@ -6,8 +6,8 @@ use native.Mathlib.Omega.{arith}
 use native.Mathlib.Nat.{not-suc-le-zero, le-of-suc-le-suc, add-assoc, add-zero}
 use native.Mathlib.Decide.{decLt}
 use lib.ListN.{length, getD, take, drop, length-append, length-map}
-use Rattle.forms.specs.declared.Span.{Span}
-use Rattle.forms.specs.declared.Item.{Item}
+use Rattle.types.specs.declared.Span.{Span}
+use Rattle.types.specs.declared.Item.{Item}
 use Rattle.forms.specs.Form.{Sequence, sequence, units, size, Form, Content, character, mark, content, span, withSpan, spanOf, itemOf, itemsFrom}
 use Rattle.forms.specs.Lossy.{markValue, valueOf, offsetOf, markCount, marks}
 use Rattle.laws.proofs.Sequences.{joined}

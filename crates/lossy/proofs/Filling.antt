@@ -7,13 +7,13 @@ use native.Mathlib.Nat.{add-zero, add-assoc}
 use native.Mathlib.Numerals.{add-one}
 use lib.ListN.{length, getD, drop, set, length-append, length-map, length-set}
 use lib.Seq.{drop-cons, set-at, append-snoc, length-front}
-use Rattle.forms.specs.declared.Fault.the-variants.{SourceTooLong, BufferTooShort}
-use Rattle.forms.specs.declared.Span.{Span}
-use Rattle.forms.specs.declared.Item.{Item}
-use Rattle.forms.specs.declared.Item.the-variants.{Character, Mark}
-use Rattle.forms.specs.declared.Refusal.{Refusal}
-use Rattle.forms.specs.declared.Counts.{Counts}
-use Rattle.forms.specs.declared.Decoding.the-variants.{Decoded, Refused}
+use Rattle.types.specs.declared.Fault.the-variants.{SourceTooLong, BufferTooShort}
+use Rattle.types.specs.declared.Span.{Span}
+use Rattle.types.specs.declared.Item.{Item}
+use Rattle.types.specs.declared.Item.the-variants.{Character, Mark}
+use Rattle.types.specs.declared.Refusal.{Refusal}
+use Rattle.types.specs.declared.Counts.{Counts}
+use Rattle.types.specs.declared.Decoding.the-variants.{Decoded, Refused}
 use Rattle.forms.specs.Fault.{limit, refusal}
 use Rattle.forms.specs.Form.{Form, spanOf, items}
 use Rattle.forms.specs.Lossy.{valueOf, offsetOf, markCount, marks, Outcome, decoded, refused, lossy, counts, answerOf, valuesIn, startsIn}

@@ -8,9 +8,9 @@ use borrow.Author.Tests.{le-ltb, lt-ltb}
 use lib.Dec.{ltb}
 use lib.ListN.{length, take, drop, length-map}
 use lib.Seq.{take-at, drop-at}
-use Rattle.forms.specs.declared.Fault.the-variants.{SourceTooLong, BufferTooShort}
-use Rattle.forms.specs.declared.Decoding.{Decoding}
-use Rattle.forms.specs.declared.Decoding.the-variants.{Decoded, Refused}
+use Rattle.types.specs.declared.Fault.the-variants.{SourceTooLong, BufferTooShort}
+use Rattle.types.specs.declared.Decoding.{Decoding}
+use Rattle.types.specs.declared.Decoding.the-variants.{Decoded, Refused}
 use Rattle.forms.specs.Fault.{limit, refusal}
 use Rattle.forms.specs.Form.{Form, items, encodeAll, AllEncodable}
 use Rattle.forms.specs.Lossy.{valueOf, offsetOf, marks, Outcome, decoded, refused, lossy, counts, answerOf, valuesIn, startsIn}

@@ -8,8 +8,8 @@ use native.Mathlib.Nat.{zero-add, add-zero, add-assoc}
 use native.Mathlib.Decide.{decLt, ℕ-discrete}
 use lib.ListN.{length, getD, take, drop, length-append, length-drop, length-map, take-append-drop}
 use lib.Seq.{drop-append-seam, getD-at, length-take-le}
-use Rattle.forms.specs.declared.Item.{Item}
-use Rattle.forms.specs.declared.Item.the-variants.{Character, Mark}
+use Rattle.types.specs.declared.Item.{Item}
+use Rattle.types.specs.declared.Item.the-variants.{Character, Mark}
 use Rattle.forms.specs.Form.{Role, lead, Sequence, sequence, units, size, Form, isTrailing, asked, sequences, Content, character, mark, content, span, itemOf, itemsFrom, items, encode, encodeAll, AllEncodable, OccursAt}
 use Rattle.forms.specs.Lossy.{markValue, valueOf, offsetOf, markCount, marks}
 use Rattle.lossy.specs.Demand3.{startsFrom, Given, Under, Outside, UnderOneMark, Parts}

@@ -4,8 +4,8 @@ use mathlib.Core.Path.{_≡_}
 use mathlib.Core.Logic.{_≢_, _↔_}
 use mathlib.Core.List.{List, [], _∷_, _++_, map}
 use lib.ListN.{length, getD, take, drop}
-use Rattle.forms.specs.declared.Decoding.{Decoding}
-use Rattle.forms.specs.declared.Decoding.the-variants.{Decoded}
+use Rattle.types.specs.declared.Decoding.{Decoding}
+use Rattle.types.specs.declared.Decoding.the-variants.{Decoded}
 use Rattle.forms.specs.Fault.{limit}
 use Rattle.forms.specs.Form.{Form, items, encode, encodeAll, AllEncodable, OccursAt}
 use Rattle.forms.specs.Lossy.{markValue, valueOf, offsetOf, marks, lossy, counts, answerOf, valuesIn, startsIn}

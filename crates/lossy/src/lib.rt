@@ -6,8 +6,8 @@ mod bytes;
 mod ucs4;
 mod utf16;
 
-use forms::Decoding;
 use tables::ByteForm;
+use types::Decoding;
 ghost use Rattle.forms.specs.Forms.{fssUtf, utfEbcdic, utf16, ucs4};
 ghost use Rattle.lossy.specs.Demand3.{DecodesLossy};
 

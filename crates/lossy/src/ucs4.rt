@@ -1,7 +1,6 @@
 // UCS-4.
-use forms::Counts;
-use forms::Decoding;
-use forms::Refusal;
+use types::Counts;
+use types::Decoding;
 ghost use mathlib.Core.Path.{_≡_};
 ghost use Prim.Native.Nat.{_≤_};
 ghost use lib.ListN.{length};
@@ -18,7 +17,7 @@ fn count(text: &[u32]) -> usize
     let mut count: usize = 0;
     while at < text.len() {
         let item = items::ucs4::item_at(text, at);
-        let span = item.span();
+        let span = answers::span(item);
         count += 1;
         at += span.length;
     }
@@ -29,25 +28,25 @@ pub fn decode_lossy(text: &[u32], values: &mut [u32], starts: &mut [u32]) -> Dec
     ensures { λ r. ⌜ DecodesLossy ucs4 (now (text .entry)) (now (values .entry)) (now (starts .entry)) r (now (values .exit)) (now (starts .exit)) ⌝ }
 {
     if 65536 < text.len() {
-        return Decoding::Refused(Refusal::source_too_long());
+        return Decoding::Refused(answers::source_too_long());
     }
     let needed = count(text);
     if values.len() < needed {
-        return Decoding::Refused(Refusal::buffer_too_short());
+        return Decoding::Refused(answers::buffer_too_short());
     }
     if starts.len() < needed {
-        return Decoding::Refused(Refusal::buffer_too_short());
+        return Decoding::Refused(answers::buffer_too_short());
     }
     let mut at: usize = 0;
     let mut items: usize = 0;
     let mut marks: usize = 0;
     while at < text.len() {
         let item = items::ucs4::item_at(text, at);
-        let span = item.span();
-        values[items] = item.value();
+        let span = answers::span(item);
+        values[items] = answers::value(item);
         starts[items] = at as u32;
         items += 1;
-        marks += item.mark_count();
+        marks += answers::mark_count(item);
         at += span.length;
     }
     Decoding::Decoded(Counts { items, marks })

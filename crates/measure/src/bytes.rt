@@ -1,9 +1,8 @@
 // FSS-UTF or UTF-EBCDIC as the source.
 use encoder::Target;
-use forms::Conversion;
-use forms::Item;
-use forms::Refusal;
 use tables::ByteForm;
+use types::Conversion;
+use types::Item;
 ghost use Rattle.forms.specs.Conversion.{Measures};
 ghost use Rattle.tables.specs.ByteForms.{byteForm};
 ghost use Rattle.encoder.specs.Target.{targetForm};
@@ -12,18 +11,18 @@ pub fn measure(form: ByteForm, target: Target, src: &[u8]) -> Conversion
     ensures { λ r. ⌜ Measures (byteForm form) (targetForm target) (now (src .entry)) r ⌝ }
 {
     if 65536 < src.len() {
-        return Conversion::Refused(Refusal::source_too_long());
+        return Conversion::Refused(answers::source_too_long());
     }
     let mut at: usize = 0;
     let mut units: usize = 0;
     while at < src.len() {
         let item = items::bytes::item_at(form, src, at);
         let Item::Character(value, span) = item else {
-            return Conversion::Refused(item.refusal());
+            return Conversion::Refused(answers::refusal(item));
         };
         let length = encoder::encoded_length(target, value);
         if length == 0 {
-            return Conversion::Refused(item.refusal());
+            return Conversion::Refused(answers::refusal(item));
         }
         units += length;
         at += span.length;

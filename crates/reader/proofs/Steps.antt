@@ -8,10 +8,10 @@ use native.Mathlib.Numerals.{add-one}
 use lib.ListN.{length, getD, drop, length-drop, drop-of-length-le}
 use lib.Seq.{drop-cons}
 use borrow.Author.Tests.{lt-ltb, le-ltb}
-use Rattle.forms.specs.declared.Fault.the-variants.{SourceTooLong, OffsetOutOfRange}
-use Rattle.forms.specs.declared.Refusal.{Refusal}
-use Rattle.forms.specs.declared.Item.{Item}
-use Rattle.forms.specs.declared.Span.{Span}
+use Rattle.types.specs.declared.Fault.the-variants.{SourceTooLong, OffsetOutOfRange}
+use Rattle.types.specs.declared.Refusal.{Refusal}
+use Rattle.types.specs.declared.Item.{Item}
+use Rattle.types.specs.declared.Span.{Span}
 use Rattle.forms.specs.Fault.{limit, refusal}
 use Rattle.forms.specs.Form.{Form, size, firstOf, spanOf, itemOf}
 use Rattle.laws.proofs.Spans.{item-span, size-within}

@@ -9,10 +9,10 @@ use lib.Dec.{ltb}
 use lib.ListN.{length, getD, drop, length-drop}
 use lib.Seq.{drop-drop}
 use borrow.Author.Tests.{le-ltb, ltb-false}
-use Rattle.forms.specs.declared.Item.{Item}
-use Rattle.forms.specs.declared.Item.the-variants.{Character, Mark}
-use Rattle.forms.specs.declared.Refusal.{Refusal}
-use Rattle.forms.specs.declared.Span.{Span}
+use Rattle.types.specs.declared.Item.{Item}
+use Rattle.types.specs.declared.Item.the-variants.{Character, Mark}
+use Rattle.types.specs.declared.Refusal.{Refusal}
+use Rattle.types.specs.declared.Span.{Span}
 use Rattle.forms.specs.Fault.{limit}
 use Rattle.forms.specs.Form.{Sequence, size, Form, firstOf, sequences, Content, character, mark, content, withSpan, span, spanOf, itemOf, itemsFrom, items}
 use Rattle.forms.specs.Forms.{fssUtf, utfEbcdic, utf16, ucs4}

@@ -4,8 +4,8 @@ use mathlib.Core.Bool.{cond}
 use mathlib.Core.List.{List, [], _∷_}
 use lib.ListN.{length, drop}
 use lib.Dec.{ltb}
-use Rattle.forms.specs.declared.Fault.the-variants.{SourceTooLong, OffsetOutOfRange}
-use Rattle.forms.specs.declared.Item.{Item}
+use Rattle.types.specs.declared.Fault.the-variants.{SourceTooLong, OffsetOutOfRange}
+use Rattle.types.specs.declared.Item.{Item}
 use Rattle.forms.specs.Fault.{limit, refusal}
 use Rattle.forms.specs.Form.{Form, firstOf, spanOf, itemOf}
 use Rattle.reader.specs.declared.Cursor.{Cursor}

@@ -1,8 +1,8 @@
 -- Reading on from a cursor, step by step: at most so many steps, until End.
 use Prim.Native.Nat.{ℕ, zero, suc, _+_}
 use mathlib.Core.List.{List, [], _∷_}
-use Rattle.forms.specs.declared.Item.{Item}
-use Rattle.forms.specs.declared.Item.the-variants.{Character, Mark}
+use Rattle.types.specs.declared.Item.{Item}
+use Rattle.types.specs.declared.Item.the-variants.{Character, Mark}
 use Rattle.forms.specs.Form.{Form, span}
 use Rattle.reader.specs.Step.{cursor, stepAt}
 use Rattle.reader.specs.declared.Cursor.{Cursor}

@@ -2,9 +2,9 @@
 //
 // A reader's state is a `Cursor`. `FssUtf::reader()` starts one, and `step_fss_utf` gives the item there with the next cursor. `specs/Step`
 // says what a step gives; the rules are those of `forms`.
-use forms::Item;
-use forms::Refusal;
 use tables::ByteForm;
+use types::Item;
+use types::Refusal;
 ghost use mathlib.Core.Path.{_≡_};
 ghost use Prim.Native.Nat.{_+_, _≤_};
 ghost use lib.ListN.{length};
@@ -121,10 +121,10 @@ impl Cursor {
     {
         let offset = self.offset;
         if 65536 < text.len() {
-            return Step::Refused(Refusal::source_too_long());
+            return Step::Refused(answers::source_too_long());
         }
         if text.len() < offset {
-            return Step::Refused(Refusal::offset_out_of_range(offset));
+            return Step::Refused(answers::offset_out_of_range(offset));
         }
         if text.len() == offset {
             return Step::End(self);
@@ -137,10 +137,10 @@ impl Cursor {
     {
         let offset = self.offset;
         if 65536 < text.len() {
-            return Step::Refused(Refusal::source_too_long());
+            return Step::Refused(answers::source_too_long());
         }
         if text.len() < offset {
-            return Step::Refused(Refusal::offset_out_of_range(offset));
+            return Step::Refused(answers::offset_out_of_range(offset));
         }
         if text.len() == offset {
             return Step::End(self);
@@ -153,10 +153,10 @@ impl Cursor {
     {
         let offset = self.offset;
         if 65536 < text.len() {
-            return Step::Refused(Refusal::source_too_long());
+            return Step::Refused(answers::source_too_long());
         }
         if text.len() < offset {
-            return Step::Refused(Refusal::offset_out_of_range(offset));
+            return Step::Refused(answers::offset_out_of_range(offset));
         }
         if text.len() == offset {
             return Step::End(self);
@@ -169,7 +169,7 @@ impl Cursor {
         requires { ⌜ self .offset + (spanOf item) .length ≤ 65536 ⌝ }
         ensures { λ r. ⌜ r ≡ Step.Next item (behind self item) ⌝ }
     {
-        let span = item.span();
+        let span = answers::span(item);
         Step::Next(
             item,
             Cursor {

@@ -6,13 +6,13 @@ use mathlib.Core.List.{List, [], _∷_, _++_}
 use native.Mathlib.Omega.{arith}
 use borrow.Author.Tests.{le-ltb, lt-ltb}
 use lib.ListN.{length, drop}
-use Rattle.forms.specs.declared.Fault.{Fault}
-use Rattle.forms.specs.declared.Fault.the-variants.{BufferTooShort}
-use Rattle.forms.specs.declared.Span.{Span}
-use Rattle.forms.specs.declared.Item.the-variants.{Character, Mark}
-use Rattle.forms.specs.declared.Refusal.{Refusal}
-use Rattle.forms.specs.declared.Conversion.{Conversion}
-use Rattle.forms.specs.declared.Conversion.the-variants.{Units, Refused}
+use Rattle.types.specs.declared.Fault.{Fault}
+use Rattle.types.specs.declared.Fault.the-variants.{BufferTooShort}
+use Rattle.types.specs.declared.Span.{Span}
+use Rattle.types.specs.declared.Item.the-variants.{Character, Mark}
+use Rattle.types.specs.declared.Refusal.{Refusal}
+use Rattle.types.specs.declared.Conversion.{Conversion}
+use Rattle.types.specs.declared.Conversion.the-variants.{Units, Refused}
 use Rattle.forms.specs.Fault.{refusal}
 use Rattle.forms.specs.Form.{Form, encode}
 use Rattle.forms.specs.Buffer.{withUnits, Holds}

@@ -1,8 +1,7 @@
 // FSS-UTF or UTF-EBCDIC to FSS-UTF or UTF-EBCDIC.
-use forms::Conversion;
-use forms::Item;
-use forms::Refusal;
 use tables::ByteForm;
+use types::Conversion;
+use types::Item;
 ghost use Rattle.forms.specs.Conversion.{Converts};
 ghost use Rattle.tables.specs.ByteForms.{byteForm};
 
@@ -14,14 +13,14 @@ pub fn convert(from: ByteForm, to: ByteForm, src: &[u8], dst: &mut [u8]) -> Conv
         return measured;
     };
     if dst.len() < units {
-        return Conversion::Refused(Refusal::buffer_too_short());
+        return Conversion::Refused(answers::buffer_too_short());
     }
     let mut at: usize = 0;
     let mut written: usize = 0;
     while at < src.len() {
         let item = items::bytes::item_at(from, src, at);
         let Item::Character(value, span) = item else {
-            return Conversion::Refused(item.refusal());
+            return Conversion::Refused(answers::refusal(item));
         };
         written = encoder::bytes::write(to, value, dst, written);
         at += span.length;

@@ -1,9 +1,8 @@
 // FSS-UTF or UTF-EBCDIC to UTF-16.
 use encoder::Target;
-use forms::Conversion;
-use forms::Item;
-use forms::Refusal;
 use tables::ByteForm;
+use types::Conversion;
+use types::Item;
 ghost use Rattle.forms.specs.Forms.{utf16};
 ghost use Rattle.forms.specs.Conversion.{Converts};
 ghost use Rattle.tables.specs.ByteForms.{byteForm};
@@ -16,14 +15,14 @@ pub fn convert(from: ByteForm, src: &[u8], dst: &mut [u16]) -> Conversion
         return measured;
     };
     if dst.len() < units {
-        return Conversion::Refused(Refusal::buffer_too_short());
+        return Conversion::Refused(answers::buffer_too_short());
     }
     let mut at: usize = 0;
     let mut written: usize = 0;
     while at < src.len() {
         let item = items::bytes::item_at(from, src, at);
         let Item::Character(value, span) = item else {
-            return Conversion::Refused(item.refusal());
+            return Conversion::Refused(answers::refusal(item));
         };
         written = encoder::utf16::write(value, dst, written);
         at += span.length;

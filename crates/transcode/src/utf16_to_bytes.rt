@@ -1,8 +1,7 @@
 // UTF-16 to FSS-UTF or UTF-EBCDIC.
-use forms::Conversion;
-use forms::Item;
-use forms::Refusal;
 use tables::ByteForm;
+use types::Conversion;
+use types::Item;
 ghost use Rattle.forms.specs.Forms.{utf16};
 ghost use Rattle.forms.specs.Conversion.{Converts};
 ghost use Rattle.tables.specs.ByteForms.{byteForm};
@@ -15,14 +14,14 @@ pub fn convert(to: ByteForm, src: &[u16], dst: &mut [u8]) -> Conversion
         return measured;
     };
     if dst.len() < units {
-        return Conversion::Refused(Refusal::buffer_too_short());
+        return Conversion::Refused(answers::buffer_too_short());
     }
     let mut at: usize = 0;
     let mut written: usize = 0;
     while at < src.len() {
         let item = items::utf16::item_at(src, at);
         let Item::Character(value, span) = item else {
-            return Conversion::Refused(item.refusal());
+            return Conversion::Refused(answers::refusal(item));
         };
         written = encoder::bytes::write(to, value, dst, written);
         at += span.length;

@@ -1,8 +1,7 @@
 // UTF-16 to UCS-4.
 use encoder::Target;
-use forms::Conversion;
-use forms::Item;
-use forms::Refusal;
+use types::Conversion;
+use types::Item;
 ghost use Rattle.forms.specs.Forms.{utf16, ucs4};
 ghost use Rattle.forms.specs.Conversion.{Converts};
 
@@ -14,14 +13,14 @@ pub fn convert(src: &[u16], dst: &mut [u32]) -> Conversion
         return measured;
     };
     if dst.len() < units {
-        return Conversion::Refused(Refusal::buffer_too_short());
+        return Conversion::Refused(answers::buffer_too_short());
     }
     let mut at: usize = 0;
     let mut written: usize = 0;
     while at < src.len() {
         let item = items::utf16::item_at(src, at);
         let Item::Character(value, span) = item else {
-            return Conversion::Refused(item.refusal());
+            return Conversion::Refused(answers::refusal(item));
         };
         written = encoder::ucs4::write(value, dst, written);
         at += span.length;

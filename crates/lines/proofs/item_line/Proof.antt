@@ -2,7 +2,7 @@ use native.Mathlib.Omega.{arith}
 use Prim.Native.Nat.{ℕ, _≤_}
 use mathlib.Core.Path.{_≡_, ap, _∙_}
 use lib.ListN.{length}
-use Rattle.forms.specs.declared.Span.{Span}
+use Rattle.types.specs.declared.Span.{Span}
 use Rattle.forms.specs.Form.{spanOf}
 use Rattle.lines.specs.Numerals.{decimal}
 use Rattle.lines.specs.Line.{Adds}

@@ -5,7 +5,7 @@ use native.Mathlib.Omega.{arith}
 use borrow.Author.Needs.{needs}
 use lib.ListN.{length}
 use denote.Ref.{now}
-use Rattle.forms.specs.declared.Span.{Span}
+use Rattle.types.specs.declared.Span.{Span}
 use Rattle.forms.specs.Form.{spanOf}
 use Rattle.forms.specs.Buffer.{withUnits, Holds}
 use Rattle.lines.specs.Line.{textOf}

@@ -3,7 +3,7 @@ use mathlib.Core.Path.{_≡_}
 use native.Mathlib.Omega.{arith}
 use borrow.Author.Needs.{needs}
 use denote.Ref.{now}
-use Rattle.forms.specs.declared.Start.the-variants.{At}
+use Rattle.types.specs.declared.Start.the-variants.{At}
 use Rattle.forms.specs.Start.{itemStart}
 use Rattle.tables.specs.ByteForms.{byteForm}
 use Rattle.tables.proofs.ByteLayouts.{byte-laws}

@@ -1,7 +1,7 @@
 use borrow.Author.Needs.{needs}
 use native.Mathlib.Omega.{arith}
 use mathlib.Core.Path.{_≡_, ap}
-use Rattle.forms.specs.declared.Span.{Span}
+use Rattle.types.specs.declared.Span.{Span}
 use Rattle.forms.specs.Form.{spanOf}
 use Rattle.reader.specs.Step.{cursor}
 use Rattle.reader.specs.declared.Step.the-variants.{Next}

@@ -1,0 +1,100 @@
+// What items and faults tell, and the refusals that concern no item: functions of the types that the calls share. Each says by the rules of
+// `forms` what it gives.
+use types::Fault;
+use types::Item;
+use types::Refusal;
+use types::Span;
+ghost use mathlib.Core.Path.{_≡_};
+ghost use Rattle.forms.specs.Fault.{numberOf, refusal};
+ghost use Rattle.forms.specs.Form.{spanOf};
+ghost use Rattle.forms.specs.Conversion.{refusalAt};
+ghost use Rattle.forms.specs.Lossy.{valueOf, markCount};
+
+// Document 01's number of a fault.
+pub fn number(fault: Fault) -> u32
+    ensures { λ r. ⌜ r ≡ numberOf fault ⌝ }
+{
+    match fault {
+        Fault::SourceTooLong => 1,
+        Fault::MissingTrailing => 2,
+        Fault::StrayTrailing => 3,
+        Fault::InvalidUnit => 4,
+        Fault::Overlong => 5,
+        Fault::Unrepresentable => 6,
+        Fault::BufferTooShort => 7,
+        Fault::ValueTooLarge => 8,
+        Fault::OffsetOutOfRange => 9,
+    }
+}
+
+pub fn span(item: Item) -> Span
+    ensures { λ r. ⌜ r ≡ spanOf item ⌝ }
+{
+    match item {
+        Item::Character(_, span) => span,
+        Item::Mark(_, span) => span,
+    }
+}
+
+// What a lossy decoding shows of the item: a character's value, FFFFFFFF for a mark.
+pub fn value(item: Item) -> u32
+    ensures { λ r. ⌜ r ≡ valueOf item ⌝ }
+{
+    match item {
+        Item::Character(value, _) => value,
+        Item::Mark(_, _) => 0xFFFFFFFF,
+    }
+}
+
+// 1 for a mark, 0 for a character.
+pub fn mark_count(item: Item) -> usize
+    ensures { λ r. ⌜ r ≡ markCount item ⌝ }
+{
+    match item {
+        Item::Character(_, _) => 0,
+        Item::Mark(_, _) => 1,
+    }
+}
+
+// Why a conversion stops at this item: a mark's fault, or 6 where the target cannot hold the character.
+pub fn refusal(item: Item) -> Refusal
+    ensures { λ r. ⌜ r ≡ refusalAt item ⌝ }
+{
+    match item {
+        Item::Character(_, span) => Refusal {
+            fault: Fault::Unrepresentable,
+            offset: span.offset,
+        },
+        Item::Mark(fault, span) => Refusal {
+            fault,
+            offset: span.offset,
+        },
+    }
+}
+
+pub fn source_too_long() -> Refusal
+    ensures { λ r. ⌜ r ≡ refusal Fault.SourceTooLong 0 ⌝ }
+{
+    Refusal {
+        fault: Fault::SourceTooLong,
+        offset: 0,
+    }
+}
+
+pub fn buffer_too_short() -> Refusal
+    ensures { λ r. ⌜ r ≡ refusal Fault.BufferTooShort 0 ⌝ }
+{
+    Refusal {
+        fault: Fault::BufferTooShort,
+        offset: 0,
+    }
+}
+
+pub fn offset_out_of_range(offset: usize) -> Refusal
+    ensures { λ r. ⌜ r ≡ refusal Fault.OffsetOutOfRange offset ⌝ }
+{
+    Refusal {
+        fault: Fault::OffsetOutOfRange,
+        offset,
+    }
+}

@@ -1,0 +1,56 @@
+// The types that every call speaks in: faults, items, refusals and answers. The rules about them are the definitions of `forms`.
+
+// Document 01's faults, in the order of their numbers.
+pub enum Fault {
+    SourceTooLong,
+    MissingTrailing,
+    StrayTrailing,
+    InvalidUnit,
+    Overlong,
+    Unrepresentable,
+    BufferTooShort,
+    ValueTooLarge,
+    OffsetOutOfRange,
+}
+
+// Where an item stands: the offset of its first code unit, and how many code units it has.
+pub struct Span {
+    pub offset: usize,
+    pub length: usize,
+}
+
+// Document 01's item: a character, or a mark, which names its fault.
+pub enum Item {
+    Character(u32, Span),
+    Mark(Fault, Span),
+}
+
+// Document 01's refusal: why a call gave no result, and the offset that the fault concerns.
+pub struct Refusal {
+    pub fault: Fault,
+    pub offset: usize,
+}
+
+// How many items a text has, and how many of them are marks.
+pub struct Counts {
+    pub items: usize,
+    pub marks: usize,
+}
+
+// The answer of a lossy decoding.
+pub enum Decoding {
+    Decoded(Counts),
+    Refused(Refusal),
+}
+
+// The answer of a start finder: the offset at which the item starts, or the refusal.
+pub enum Start {
+    At(usize),
+    Refused(Refusal),
+}
+
+// The answer of a strict conversion or of its measure: the code units written or needed, or the refusal.
+pub enum Conversion {
+    Units(usize),
+    Refused(Refusal),
+}
