@@ -1,7 +1,7 @@
-//! Holds three texts to each other: the header `include/jiskromet.h`, this
-//! package's `src/library.rs` and the library's exports in
-//! `crates/jiskromet/src`. A linker compares names only; a parameter or field
-//! that differs would go unseen.
+//! Holds four texts to each other: the header `include/jiskromet.h`, this
+//! package's `src/library.rs`, the Rust wrapper's `rust/src/sys.rs` and the
+//! library's exports in `crates/jiskromet/src`. A linker compares names only; a
+//! parameter or field that differs would go unseen.
 
 use std::collections::{BTreeMap, BTreeSet};
 use std::fs;
@@ -15,13 +15,19 @@ const LIBRARY: &str = include_str!("library.rs");
 
 pub fn check(group: &mut Group, root: &Path) {
     let header = root.join("include/jiskromet.h");
+    let wrapper = root.join("rust/src/sys.rs");
     let sources = root.join("crates/jiskromet/src");
     let header = fs::read_to_string(&header).map_err(|why| format!("{}: {why}", header.display()));
+    let wrapper =
+        fs::read_to_string(&wrapper).map_err(|why| format!("{}: {why}", wrapper.display()));
     let sources = read_sources(&sources).map_err(|why| format!("{}: {why}", sources.display()));
-    match (header, sources) {
-        (Ok(header), Ok(sources)) => compare(group, &header, LIBRARY, &sources),
-        (header, sources) => {
-            for why in [header.err(), sources.err()].into_iter().flatten() {
+    match (header, wrapper, sources) {
+        (Ok(header), Ok(wrapper), Ok(sources)) => {
+            compare(group, &header, LIBRARY, &wrapper, &sources);
+        }
+        (header, wrapper, sources) => {
+            let missing = [header.err(), wrapper.err(), sources.err()];
+            for why in missing.into_iter().flatten() {
                 group.check(false, || why);
             }
         }
@@ -45,10 +51,11 @@ fn read_sources(folder: &Path) -> io::Result<String> {
     Ok(text)
 }
 
-fn compare(group: &mut Group, header: &str, library: &str, sources: &str) {
+fn compare(group: &mut Group, header: &str, library: &str, wrapper: &str, sources: &str) {
     let texts = [
         ("the header", parse_c(header)),
         ("library.rs", parse_rust(library)),
+        ("the wrapper's sys.rs", parse_rust(wrapper)),
         ("the library's source", parse_rattle(sources)),
     ];
     for (name, declared) in &texts {
@@ -749,15 +756,46 @@ mod tests {
         }
     "#;
 
+    /// The wrapper's declarations are as they should be.
     fn failures(header: &str, library: &str, sources: &str) -> Vec<String> {
+        compared(header, library, RUST, sources)
+    }
+
+    fn compared(header: &str, library: &str, wrapper: &str, sources: &str) -> Vec<String> {
         let mut group = Group::default();
-        compare(&mut group, header, library, sources);
+        compare(&mut group, header, library, wrapper, sources);
         group.shown().to_vec()
     }
 
     #[test]
     fn equal_texts_pass() {
         assert_eq!(failures(HEADER, RUST, RATTLE), Vec::<String>::new());
+        // The wrapper's functions are public, its fields are not.
+        let wrapper = RUST.replace("pub ", "").replace(" fn ", " pub fn ");
+        assert_eq!(
+            compared(HEADER, RUST, &wrapper, RATTLE),
+            Vec::<String>::new()
+        );
+    }
+
+    /// A change in the wrapper alone is seen, and named as the wrapper's.
+    #[test]
+    fn each_difference_of_the_wrapper_is_seen() {
+        for (from, to) in [
+            ("offset: usize) -> JkItem", "offset: u32) -> JkItem"),
+            ("*mut u32", "*const u32"),
+            ("-> JkStart", "-> JkItem"),
+            ("items: u64, pub marks", "marks: u64, pub items"),
+            ("fn jk_utf16_item_start", "fn jk_utf16_start"),
+            ("#[repr(C)]", ""),
+        ] {
+            let seen = compared(HEADER, RUST, &RUST.replace(from, to), RATTLE);
+            assert!(
+                seen.iter().any(|why| why.contains("the wrapper's sys.rs")),
+                "{from}: {seen:?}"
+            );
+        }
+        assert!(!compared(HEADER, RUST, "", RATTLE).is_empty());
     }
 
     /// Each change in one text alone is seen and named.
