@@ -39,7 +39,7 @@ pub data Outcome : Type 0 where
   decoded : List Item → Outcome
   refused : Refusal → Outcome
 
--- "7 where either buffer has fewer cells than the text has items", after 1
+-- fault 1, then 7 where either buffer has fewer cells than the text has items
 abbrev pub lossy : Form → List ℕ → ℕ → ℕ → Outcome
 lossy F s m n =
     cond (ltb limit (length s)) (refused (refusal SourceTooLong 0))
