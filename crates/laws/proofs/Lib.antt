@@ -24,3 +24,4 @@ pub mod RoundTrip
 pub mod TwelvePairs
 pub mod Distances
 pub mod Starts
+pub mod Runs

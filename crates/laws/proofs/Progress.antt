@@ -21,11 +21,11 @@ use Rattle.laws.proofs.FormLaws.{Reads, Laws}
 use Rattle.laws.proofs.Items.{itemsOnward, sequenceAt, items-end, items-step, length-at, within-at}
 use Rattle.laws.proofs.Characters.{content-reads, put-some}
 
-prepend-none : (o : Outcome) → o ≡ prepend [] o
+pub prepend-none : (o : Outcome) → o ≡ prepend [] o
 prepend-none (converted es) = refl
 prepend-none (refused r) = refl
 
-prepend-twice : (d e : List ℕ) (o : Outcome) → prepend d (prepend e o) ≡ prepend (d ++ e) o
+pub prepend-twice : (d e : List ℕ) (o : Outcome) → prepend d (prepend e o) ≡ prepend (d ++ e) o
 prepend-twice d e (converted es) = ap converted (sym (append-assoc d e es))
 prepend-twice d e (refused r) = refl
 

@@ -13,6 +13,7 @@ use Rattle.types.specs.declared.Conversion.the-variants.{Units, Refused}
 use Rattle.forms.specs.Fault.{limit, refusal}
 use Rattle.forms.specs.Form.{Form, encode}
 use Rattle.forms.specs.Conversion.{refusalAt, answerOf, Measures}
+use Rattle.laws.proofs.Runs.{Counted, progress-run}
 use Rattle.laws.proofs.Progress.{CharacterAt, MarkAt, character-onward, Progress, progress-begin, progress-end, progress-over, progress-more, progress-stops}
 
 -- the items before `at` become so many units
@@ -36,6 +37,17 @@ module _ {F G : Form} {s : List ℕ} where
 
   pub measuring-end : {at units : ℕ} → Measuring F G s at units → length s ≤ at → Measures F G s (Units units)
   measuring-end {at} m h = record { answer = ap Units (m .counted) ∙ sym (ap answerOf (progress-end F G s at (m .done) (m .progress) h)) }
+
+  -- a run of characters at once
+  pub measuring-run : {at units k u : ℕ} → Measuring F G s at units → Counted F G s at k u → Measuring F G s (at + k) (units + u)
+  measuring-run m r =
+      record {
+        done = m .done ++ r .out;
+        progress = progress-run (m .progress) (r .run);
+        counted = omega (arith, m .counted, r .counted, length-append (m .done) (r .out));
+        small = omega (arith, m .small, r .small);
+        short = m .short;
+      }
 
   module _ {p units : ℕ} {q : Span} where
     pub measuring-mark : {f : Fault} {r : Refusal} → Measuring F G s p units → MarkAt F s p f q → r ≡ refusalAt (Mark f q) → Measures F G s (Refused r)

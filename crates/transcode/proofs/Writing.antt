@@ -5,7 +5,7 @@ use mathlib.Core.Logic.{_≢_}
 use mathlib.Core.List.{List, [], _∷_, _++_}
 use native.Mathlib.Omega.{arith}
 use borrow.Author.Tests.{le-ltb, lt-ltb}
-use lib.ListN.{length, drop}
+use lib.ListN.{length, drop, length-append}
 use Rattle.types.specs.declared.Fault.{Fault}
 use Rattle.types.specs.declared.Fault.the-variants.{BufferTooShort}
 use Rattle.types.specs.declared.Span.{Span}
@@ -16,10 +16,13 @@ use Rattle.types.specs.declared.Conversion.the-variants.{Units, Refused}
 use Rattle.forms.specs.Fault.{refusal}
 use Rattle.forms.specs.Form.{Form, encode}
 use Rattle.forms.specs.Buffer.{withUnits, Holds}
-use Rattle.forms.specs.Conversion.{converted, refused, outcome, Measures, Converts}
+use Rattle.forms.specs.Conversion.{converted, refused, convertItems, outcome, Measures, Converts}
 use Rattle.laws.proofs.Outcomes.{converted-same}
 use Rattle.laws.proofs.Answers.{answer-units, answer-refused}
 use Rattle.laws.proofs.Buffers.{holds-none, holds-more, length-with}
+use Rattle.laws.proofs.Characters.{prepend-converted}
+use Rattle.laws.proofs.Items.{itemsOnward}
+use Rattle.laws.proofs.Runs.{Convertible, Wrote, progress-run, convertible-run}
 use Rattle.laws.proofs.Progress.{CharacterAt, MarkAt, Progress, progress-begin, progress-end, within-limit, progress-more, progress-next}
 
 -- the items before `at` were written, and the whole comes to a result for which there is room
@@ -79,6 +82,27 @@ module _ {F G : Form} {s d : List ℕ} where
     -- no mark is left
     pub writing-mark : {A : Type 0} {f : Fault} {q : Span} → Writing F G s d p written o → MarkAt F s p f q → A
     writing-mark {A} {f} {q} w c = absurd (progress-next F G s p (c .inside) (Mark f q) (c .is) (w .done) (w .progress) (w .result) (w .all) .0 refl)
+
+    -- what a run may ask
+    pub writing-convertible : Writing F G s d p written o → Convertible F G s p written (length o)
+    writing-convertible w =
+        let q = prepend-converted (w .done) (w .result) (convertItems G (itemsOnward F s p)) (sym (w .progress .whole) ∙ w .all) in
+        let l : length (w .result) ≡ length (w .done) + length (q .0) = ap length (q .2) ∙ length-append (w .done) (q .0) in
+        record { rest = q .0; comes = q .1; fits = omega (arith, w .holds .counted, w .fits, w .same, l) }
+
+    -- a run of characters at once
+    pub writing-run : {k u : ℕ} {o₂ : List ℕ} → Writing F G s d p written o → Wrote F G s p k u o written o₂ → Writing F G s d (p + k) (written + u) o₂
+    writing-run {k} {u} {o₂} w r =
+        let room = convertible-run (writing-convertible w) (r .run) .0 in
+        record {
+          result = w .result;
+          all = w .all;
+          fits = w .fits;
+          done = w .done ++ r .out;
+          progress = progress-run (w .progress) (r .run);
+          holds = holds-more d (w .done) (r .out) o o₂ written (written + u) (w .holds) (ap (λ (x : ℕ). written + x) (r .counted)) (r .cells);
+          same = length-with o (r .out) o₂ written (r .cells) room ∙ w .same;
+        }
 
     module _ {v : ℕ} {q : Span} where
       pub writing-held : Writing F G s d p written o → CharacterAt F s p v q → (encode G v ≢ []) × (written + length (encode G v) ≤ length o)

@@ -54,3 +54,10 @@ pub enum Conversion {
     Units(usize),
     Refused(Refusal),
 }
+
+// How far one step of a conversion came: the code units that it took, whole characters all, and how many they are in the target. None
+// taken means that the next item is to be read by itself.
+pub struct Run {
+    pub length: usize,
+    pub units: usize,
+}
