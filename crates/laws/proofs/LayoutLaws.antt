@@ -71,7 +71,7 @@ module _ (L : Layout) (fits : Fit L) where
   all-digits [] a = tt
   all-digits (x ∷ xs) a = (trailing-digit x (a .0), all-digits xs (a .1))
 
-  all-trailing : (t : List ℕ) → AllDigits (L .low) (L .radix) t → AllTrailing F t
+  pub all-trailing : (t : List ℕ) → AllDigits (L .low) (L .radix) t → AllTrailing F t
   all-trailing [] a = tt
   all-trailing (x ∷ xs) a = (digit-trailing x (a .0), all-trailing xs (a .1))
 
@@ -210,7 +210,7 @@ module _ (L : Layout) (fits : Fit L) where
       let q = carried-character (valueOf L c) v (L .excluded (valueOf L c)) (rw e at h) in
       record { value = q .1; free = rw (q .1) at (q .0); short = e }
 
-  fine : (c : Sequence) (v : ℕ) → fullContent F c ≡ character v → Fine c v
+  pub fine : (c : Sequence) (v : ℕ) → fullContent F c ≡ character v → Fine c v
   fine c v h = fine-cond c v (overlong F c) refl h
 
   only-shortest : (c : Sequence) → Full F c → overlong F c ≡ false → F .shortest (valueOf L c) ≡ units c

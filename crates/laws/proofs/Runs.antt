@@ -182,7 +182,7 @@ between {F} {G} {s} Border a from e next (suc fuel) at h l m i b = go (decLt at 
         let n = next at h d b in
         let some = character-onward (n .character) in
         let q : n .long + (e - (at + n .long)) ≡ e - at = omega (arith, n .within) in
-        let one = counted-one (n .character) (n .counted) (λ z. omega (arith, z, some, absent (encode G (n .value)) (n .held) (sym (n .counted) ∙ z))) (n .few) in
+        let one : Counted F G s at (n .long) (sum a at (n .long)) = counted-one (n .character) (n .counted) (λ z. omega (arith, z, some, absent (encode G (n .value)) (n .held) (sym (n .counted) ∙ z))) (n .few) in
         let rest = again (at + n .long) (omega (arith, some)) (n .within) (omega (arith, some)) i (n .border) in
         rw (← q, sum-join a at (n .long) (e - (at + n .long))) (counted-join one rest)
       where
