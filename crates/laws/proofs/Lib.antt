@@ -26,3 +26,4 @@ pub mod Distances
 pub mod Starts
 pub mod Runs
 pub mod ReadUnits
+pub mod Blocks

@@ -9,6 +9,7 @@ use native.Mathlib.Numerals.{add-one}
 use lib.ListN.{length, getD, take, drop, length-drop, length-take}
 use lib.Seq.{drop-cons}
 use Rattle.types.specs.declared.Fault.{Fault}
+use Rattle.types.specs.declared.Span.{Span}
 use Rattle.types.specs.declared.Item.{Item}
 use Rattle.types.specs.declared.Item.the-variants.{Character, Mark}
 use Rattle.forms.specs.Form.{Role, lead, Sequence, sequence, size, Form, asked, taken, firstOf, Content, character, mark, content, span, withSpan, itemOf}
@@ -21,8 +22,7 @@ use Rattle.laws.proofs.AscendingRows.{ascending, ascending-fits, limits
 use Rattle.laws.proofs.Reading.{reads-character}
 use Rattle.laws.proofs.Items.{sequenceAt}
 use Rattle.laws.proofs.Characters.{content-reads}
-use Rattle.laws.proofs.Progress.{CharacterAt, MarkAt}
-use Rattle.laws.proofs.Runs.{Convertible, convertible-mark}
+use Rattle.laws.proofs.Progress.{CharacterAt}
 
 -- the units behind an offset, one after the other
 module _ (s : List ℕ) (p : ℕ) where
@@ -80,8 +80,10 @@ module _ (L : Layout) (passes : ascending L ≡ true) (free : (v : ℕ) → v < 
     pub digits : AllDigits (L .low) (L .radix) (take k (drop (p + 1) s))
     pub is : value ≡ (getD s p 0 - (rowAt L k) .first) * (L .radix) ^ k + number (L .low) (L .radix) (take k (drop (p + 1) s))
 
-  pub known : {G : Form} {n m : ℕ} → Convertible (formOf L) G s p n m → (k : ℕ) → p < length s → k < length (L .rows) → (rowAt L k) .first ≤ getD s p 0 → getD s p 0 ≤ (rowAt L k) .last → Known k
-  known {G} {n} {m} c k h i from to = go (content F (sequenceAt F s p)) refl
+  pub known :
+      {w : ℕ} {q : Span} → CharacterAt (formOf L) s p w q → (k : ℕ) → k < length (L .rows) → (rowAt L k) .first ≤ getD s p 0 → getD s p 0 ≤ (rowAt L k) .last
+      → Known k
+  known {w} {q} c k i from to = go (content F (sequenceAt F s p)) refl
     where
       leads : roleOf L u ≡ lead k
       leads = leads-of-row L passes k u i from to
@@ -90,7 +92,9 @@ module _ (L : Layout) (passes : ascending L ≡ true) (free : (v : ℕ) → v < 
       rest-is = ap (λ (o : Role). taken F (asked o) us) leads
 
       go : (t : Content) → content F (sequenceAt F s p) ≡ t → Known k
-      go (mark f) e = convertible-mark c (record { inside = h; is = sym (ap (λ (x : Content). withSpan x (span p (size (sequenceAt F s p)))) e) })
+      go (mark f) e =
+          let d : Character w q ≡ Mark f (span p (size (sequenceAt F s p))) = c .is ∙ ap (λ (x : Content). withSpan x (span p (size (sequenceAt F s p)))) e in
+          absurd (let z : _≡_ {A = ℕ} 0 1 = cc in omega arith)
       go (character v) e =
           let q = sequenceAt F s p in
           let r = content-reads F q v (taken-trailing F (asked (F .role u)) us) e in
@@ -104,7 +108,7 @@ module _ (L : Layout) (passes : ascending L ≡ true) (free : (v : ℕ) → v < 
           let sized : size q ≡ k + 1 = omega (arith, z) in
           record {
             value = v;
-            here = record { inside = h; is = sym (ap (λ (b : Content). withSpan b (span p (size q))) e ∙ ap (λ (b : ℕ). Character v (span p b)) sized) };
+            here = record { inside = c .inside; is = sym (ap (λ (b : Content). withSpan b (span p (size q))) e ∙ ap (λ (b : ℕ). Character v (span p b)) sized) };
             inside = omega (arith, y, length-take k us, length-drop (p + 1) s);
             digits = subst (λ (b : List ℕ). AllDigits (L .low) (L .radix) b) x (all-digits L fits (q .rest) (r .full .trail));
             is = omega (arith, sym (fine L fits q v (r .shows) .value), w, o);

@@ -1,0 +1,80 @@
+-- Blocks of units: what a loop over one gathers, and a local array that holds one.
+use Prim.Native.Nat.{ℕ, zero, suc, _+_, _-_, _≤_, _<_}
+use mathlib.Core.Path.{_≡_, refl, sym, ap, _∙_, subst}
+use mathlib.Core.List.{List, [], _∷_}
+use native.Mathlib.Omega.{arith}
+use native.Mathlib.Nat.{le-trans}
+use native.Mathlib.Decide.{decLt, ℕ-discrete}
+use borrow.Author.Count.{below-more}
+use lib.Bits.{bitOr, bitAnd, or-add-and, and-le-l, and-le-r}
+use lib.ListN.{length, getD, set, length-set}
+use lib.Seq.{getD-set-same, getD-set-other}
+
+-- what holds at each of n numbers from `at` on
+pub record Each (P : ℕ → Type 0) (at n : ℕ) : Type 0 where
+  pub each : (k : ℕ) → k < n → P (at + k)
+
+module _ {P : ℕ → Type 0} {at : ℕ} where
+  pub each-none : Each P at 0
+  each-none = record { each = λ k h. absurd (omega arith) }
+
+  pub each-more : {n : ℕ} → Each P at n → P (at + n) → Each P at (n + 1)
+  each-more {n} a b = record { each = below-more (λ (k : ℕ). P (at + k)) n (a .each) b }
+
+  pub each-join : {n k : ℕ} → Each P at n → Each P (at + n) k → Each P at (n + k)
+  each-join {n} {k} a b = record { each = λ i h. go i h (decLt i n) }
+    where
+      go : (i : ℕ) → i < n + k → Dec (i < n) → P (at + i)
+      go i h (yes l) = a .each i l
+      go i h (no l) =
+          let q : at + n + (i - n) ≡ at + i = omega arith in
+          rw q at (b .each (i - n) (omega arith))
+
+  pub each-all : {j : ℕ} (n : ℕ) → Each P at j → j ≤ n → n ≤ j → Each P at n
+  each-all {j} n a h k = let e : j ≡ n = omega arith in rw e at a
+
+-- the n units from `at` on are at most m
+pub record AtMost (s : List ℕ) (at n m : ℕ) : Type 0 where
+  pub all : Each (λ i. getD s i 0 ≤ m) at n
+
+or-left : (a b : ℕ) → a ≤ bitOr a b
+or-left a b = omega (arith, or-add-and a b, and-le-r a b)
+
+or-right : (a b : ℕ) → b ≤ bitOr a b
+or-right a b = omega (arith, or-add-and a b, and-le-l a b)
+
+module _ {s : List ℕ} {at : ℕ} where
+  pub at-most-none : {m : ℕ} → AtMost s at 0 m
+  at-most-none = record { all = each-none }
+
+  pub at-most-looser : {n m : ℕ} (l : ℕ) → AtMost s at n m → m ≤ l → AtMost s at n l
+  at-most-looser l a h = record { all = record { each = λ k i. le-trans (a .all .each k i) h } }
+
+  -- units joined bit by bit: each is at most the whole
+  pub at-most-or : {n m : ℕ} (x : ℕ) → AtMost s at n m → x ≡ getD s (at + n) 0 → AtMost s at (n + 1) (bitOr m x)
+  at-most-or {n} {m} x a e =
+      record {
+        all = each-more (at-most-looser (bitOr m x) a (or-left m x) .all) (subst (λ (y : ℕ). y ≤ bitOr m x) e (or-right m x));
+      }
+
+  pub at-most-join : {n k m : ℕ} → AtMost s at n m → AtMost s (at + n) k m → AtMost s at (n + k) m
+  at-most-join a b = record { all = each-join (a .all) (b .all) }
+
+  pub at-most-all : {j m : ℕ} (n : ℕ) → AtMost s at j m → j ≤ n → n ≤ j → AtMost s at n m
+  at-most-all {j} {m} n a h k = record { all = each-all n (a .all) h k }
+
+-- a local array of n cells, the first j of which hold g of the units from `at` on
+pub record Held (g : ℕ → ℕ) (s : List ℕ) (at n j : ℕ) (b : List ℕ) : Type 0 where
+  pub long : length b ≡ n
+  pub each : (k : ℕ) → k < j → getD b k 0 ≡ g (getD s (at + k) 0)
+
+pub held-none : {g : ℕ → ℕ} {s b : List ℕ} {at n : ℕ} → length b ≡ n → Held g s at n 0 b
+held-none e = record { long = e; each = λ k h. absurd (omega arith) }
+
+pub held-more :
+    {g : ℕ → ℕ} {s b : List ℕ} {at n j : ℕ} (x : ℕ) → Held g s at n j b → j < n → x ≡ g (getD s (at + j) 0) → Held g s at n (j + 1) (set b j x)
+held-more {g} {s} {b} {at} {n} {j} x h l e =
+    record { long = length-set b j x ∙ h .long; each = below-more (λ (k : ℕ). getD (set b j x) k 0 ≡ g (getD s (at + k) 0)) j (λ k i. before k i) (getD-set-same b j x 0 (omega (arith, h .long)) ∙ e) }
+  where
+    before : (k : ℕ) → k < j → getD (set b j x) k 0 ≡ g (getD s (at + k) 0)
+    before k i = getD-set-other b j k x 0 (λ z. omega (arith, z)) ∙ h .each k i
