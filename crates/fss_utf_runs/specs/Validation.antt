@@ -1,18 +1,15 @@
 -- Well-formed FSS-UTF told by a window of four bytes: inner, for the blocks that a measure takes at once. It knows the sequences of one to
--- four bytes that UTF-16 holds; a block with any other is left to the item reader.
+-- four bytes whose values UTF-16 holds; a block with any other is left to the item reader.
 use Prim.Native.Nat.{ℕ, zero, suc, _+_, _-_, _≤_, _<_}
 use mathlib.Core.Path.{_≡_}
+use mathlib.Core.Logic.{_≢_}
 use mathlib.Core.Bool.{Bool, true, false, not, _&&_, _||_, Bool·beq}
 use mathlib.Core.List.{List}
 use lib.Dec.{leb, ltb, eqb}
-use mathlib.Core.Logic.{_≢_}
 use lib.ListN.{length, getD}
 use Rattle.laws.proofs.Runs.{sum}
+use Rattle.laws.proofs.Blocks.{Each}
 use Rattle.fss_utf_runs.specs.declared.count.Weights.{Weights}
-
--- the n bytes from `at` on are at most m
-pub record AtMost (s : List ℕ) (at n m : ℕ) : Type 0 where
-  pub each : (k : ℕ) → k < n → getD s (at + k) 0 ≤ m
 
 abbrev pub isTrailingByte : ℕ → Bool
 isTrailingByte b = leb 0x80 b && ltb b 0xC0
@@ -37,7 +34,7 @@ illFormedAt s i = illFormed (getD s (i - 3) 0) (getD s (i - 2) 0) (getD s (i - 1
 
 -- nothing is wrong at the n places from `at` on
 pub record Validated (s : List ℕ) (at n : ℕ) : Type 0 where
-  pub each : (k : ℕ) → k < n → illFormedAt s (at + k) ≡ false
+  pub all : Each (λ i. illFormedAt s i ≡ false) at n
 
 abbrev pub bit : Bool → ℕ
 bit true = 1
@@ -45,30 +42,34 @@ bit false = 0
 
 -- the units of the target that a byte adds, behind the byte p: one for a lead, one more from each weight on; and one for the second byte of
 -- the lead `split` from A0 on
-abbrev pub added : Weights → ℕ → ℕ → ℕ
+unfoldable pub added : Weights → ℕ → ℕ → ℕ
 added w p b =
     bit (not (isTrailingByte b)) + bit (leb (w .two) b) + bit (leb (w .three) b) + bit (leb (w .four) b) + bit (leb (w .five) b)
-    + bit (eqb p (w .split) && leb 0xA0 b && ltb b 0xC0)
+    + bit (leb 0xA0 b && ltb b 0xC0 && eqb p (w .split))
 
 abbrev pub addedAt : Weights → List ℕ → ℕ → ℕ
 addedAt w s i = added w (getD s (i - 1) 0) (getD s i 0)
 
--- what the blocks of a text come to
+-- blocks at which nothing is wrong, and what their bytes add
 pub record Blocks (w : Weights) (s : List ℕ) (at n u : ℕ) : Type 0 where
   pub inside : at + n ≤ length s
   pub valid : Validated s at n
   pub counted : u ≡ sum (addedAt w s) at n
 
--- whole characters at which nothing is wrong; none of them where n is 0
+-- n bytes from a lead up to another, with nothing wrong at either or between
+pub record Bordered (s : List ℕ) (at n : ℕ) : Type 0 where
+  pub behind : 3 ≤ at
+  pub inside : at + n < length s
+  pub first : isTrailingByte (getD s at 0) ≡ false
+  pub last : isTrailingByte (getD s (at + n) 0) ≡ false
+  pub valid : Validated s at (n + 1)
+
+-- such bytes, or none, and what they add
 pub record Whole (w : Weights) (s : List ℕ) (at n u : ℕ) : Type 0 where
-  pub inside : at + n ≤ length s
-  pub valid : (k : ℕ) → k < n + 1 → n ≢ 0 → illFormedAt s (at + k) ≡ false
-  pub deep : n ≢ 0 → (3 ≤ at) × (at + n < length s)
-  pub first : n ≢ 0 → isTrailingByte (getD s at 0) ≡ false
-  pub last : n ≢ 0 → isTrailingByte (getD s (at + n) 0) ≡ false
+  pub some : n ≢ 0 → Bordered s at n
   pub counted : u ≡ sum (addedAt w s) at n
 
--- the weights of each target
+-- the weights of each target: FF, which is in no well-formed text, where no lead adds more
 abbrev pub weightsOf : ℕ → ℕ → ℕ → ℕ → ℕ → Weights
 weightsOf a b c d e = record { two = a; three = b; four = c; five = d; split = e }
 

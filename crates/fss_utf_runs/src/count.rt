@@ -7,8 +7,9 @@ ghost use Prim.Native.Nat.{_+_, _-_, _<_, _≤_};
 ghost use lib.ListN.{length, getD};
 ghost use Rattle.forms.specs.Forms.{fssUtf};
 ghost use Rattle.laws.proofs.Runs.{Counted, sum};
+ghost use Rattle.laws.proofs.Blocks.{AtMost};
 ghost use Rattle.encoder.specs.Target.{targetForm};
-ghost use Rattle.fss_utf_runs.specs.Validation.{AtMost, Validated, Blocks, Whole, illFormed, bit, added, addedAt, isTrailingByte, utfEbcdicWeights, utf16Weights, ucs4Weights};
+ghost use Rattle.fss_utf_runs.specs.Validation.{Validated, Blocks, Whole, illFormed, bit, added, addedAt, isTrailingByte, utfEbcdicWeights, utf16Weights, ucs4Weights};
 
 // From which byte on a lead adds a second, third, fourth and fifth unit; and the lead whose second byte adds one from A0 on. FF, which
 // stands in no well-formed text, is reached by no lead.
@@ -93,7 +94,7 @@ fn ill_formed64(src: &[u8], at: usize) -> bool
 }
 
 fn one_if(x: bool) -> u8
-    ensures { λ r. ⌜ r ≡ bit x ⌝ }
+    ensures { λ r. ⌜ (r ≡ bit x) × (r ≤ 1) ⌝ }
 {
     if x { 1 } else { 0 }
 }
@@ -102,7 +103,7 @@ fn added_by(weights: Weights, before: u8, byte: u8) -> u8
     ensures { λ r. ⌜ r ≡ added weights before byte ⌝ }
 {
     let lead = one_if(!((byte >= 0x80) & (byte < 0xC0)));
-    let split = one_if((before == weights.split) & (byte >= 0xA0) & (byte < 0xC0));
+    let split = one_if((byte >= 0xA0) & (byte < 0xC0) & (before == weights.split));
     lead + one_if(byte >= weights.two) + one_if(byte >= weights.three) + one_if(byte >= weights.four) + one_if(byte >= weights.five) + split
 }
 
