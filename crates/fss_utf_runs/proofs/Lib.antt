@@ -1,2 +1,3 @@
 pub mod Validating
 pub mod WellFormed
+pub mod TargetWeights
