@@ -79,8 +79,7 @@ module _ {w : Weights} {s : List ℕ} {at : ℕ} where
       → x ≡ sum (addedAt w s) (at + k) (n - k) → (x ≤ u) × Whole w s at k (u - x)
   whole-cut {n} {u} {k} {x} b h f l g e =
       let q : k + (n - k) ≡ n = omega arith in
-      let z : sum (addedAt w s) at n ≡ sum (addedAt w s) at k + sum (addedAt w s) (at + k) (n - k) = rw q at (sum-join (addedAt w s) at k (n - k)) in
-      (
+      let z : sum (addedAt w s) at n ≡ sum (addedAt w s) at k + sum (addedAt w s) (at + k) (n - k) = rw q at (sum-join (addedAt w s) at k (n - k)) in (
         omega (arith, b .counted, z, e),
         record {
           some =

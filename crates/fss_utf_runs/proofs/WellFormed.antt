@@ -111,8 +111,7 @@ module _ {p3 p2 p1 b : ℕ} (r : Right p3 p2 p1 b) where
   lead-before : isTrailingByte b ≡ false → (p1 < 0xC0) × (p2 < 0xE0) × (p3 < 0xF0)
   lead-before t =
       let m : asksTrailing p3 p2 p1 ≡ false = r .due ∙ t in
-      let n : (leb 0xC0 p1 || leb 0xE0 p2) ≡ false = or-left (leb 0xC0 p1 || leb 0xE0 p2) (leb 0xF0 p3) m in
-      (
+      let n : (leb 0xC0 p1 || leb 0xE0 p2) ≡ false = or-left (leb 0xC0 p1 || leb 0xE0 p2) (leb 0xF0 p3) m in (
         leb-false 0xC0 p1 (or-left (leb 0xC0 p1) (leb 0xE0 p2) n),
         leb-false 0xE0 p2 (or-right (leb 0xC0 p1) (leb 0xE0 p2) n),
         leb-false 0xF0 p3 (or-right (leb 0xC0 p1 || leb 0xE0 p2) (leb 0xF0 p3) m),

@@ -75,7 +75,10 @@ fn ill_formed(p3: u8, p2: u8, p1: u8, byte: u8) -> bool
     let asks = (p1 >= 0xC0) | (p2 >= 0xE0) | (p3 >= 0xF0);
     let trails = (byte >= 0x80) & (byte < 0xC0);
     let no_byte = (byte == 0xC0) | (byte == 0xC1) | (byte >= 0xF5);
-    let no_second = (p1 == 0xE0) & (byte < 0xA0) | (p1 == 0xED) & (byte >= 0xA0) | (p1 == 0xF0) & (byte < 0x90) | (p1 == 0xF4) & (byte >= 0x90);
+    let no_second = (p1 == 0xE0) & (byte < 0xA0)
+        | (p1 == 0xED) & (byte >= 0xA0)
+        | (p1 == 0xF0) & (byte < 0x90)
+        | (p1 == 0xF4) & (byte >= 0x90);
     (asks != trails) | no_byte | no_second
 }
 
@@ -104,7 +107,12 @@ fn added_by(weights: Weights, before: u8, byte: u8) -> u8
 {
     let lead = one_if(!((byte >= 0x80) & (byte < 0xC0)));
     let split = one_if((byte >= 0xA0) & (byte < 0xC0) & (before == weights.split));
-    lead + one_if(byte >= weights.two) + one_if(byte >= weights.three) + one_if(byte >= weights.four) + one_if(byte >= weights.five) + split
+    lead
+        + one_if(byte >= weights.two)
+        + one_if(byte >= weights.three)
+        + one_if(byte >= weights.four)
+        + one_if(byte >= weights.five)
+        + split
 }
 
 // In a byte, so that many are added at once: 32 bytes add at most 192.
@@ -189,20 +197,130 @@ fn valid_run(weights: Weights, src: &[u8], at: usize) -> Run
     ensures { λ r. ⌜ Whole weights (now (src .entry)) at (r .length) (r .units) ⌝ }
 {
     if at < 3 {
-        return Run { length: 0, units: 0 };
+        return Run {
+            length: 0,
+            units: 0,
+        };
     }
     let blocks = valid_blocks(weights, src, at);
     let length = blocks.length;
     let units = blocks.units;
     if length == 0 {
-        return Run { length: 0, units: 0 };
+        return Run {
+            length: 0,
+            units: 0,
+        };
     }
     if trails(src[at]) {
-        return Run { length: 0, units: 0 };
+        return Run {
+            length: 0,
+            units: 0,
+        };
     }
     let last = last_lead(src, at, length);
     if last == 0 {
-        return Run { length: 0, units: 0 };
+        return Run {
+            length: 0,
+            units: 0,
+        };
     }
-    Run { length: last, units: units - added_few(weights, src, at + last, length - last) }
+    Run {
+        length: last,
+        units: units - added_few(weights, src, at + last, length - last),
+    }
+}
+
+fn valid(target: Target, src: &[u8], at: usize) -> Run
+    requires { ⌜ (at ≤ length (now src)) × (length (now src) ≤ 65536) ⌝ }
+    ensures { λ r. ⌜ Counted fssUtf (targetForm target) (now (src .entry)) at (r .length) (r .units) ⌝ }
+{
+    match target {
+        Target::FssUtf => Run {
+            length: 0,
+            units: 0,
+        },
+        Target::UtfEbcdic => valid_run(
+            Weights {
+                two: 0xC3,
+                three: 0xD0,
+                four: 0xE4,
+                five: 0xF1,
+                split: 0xC2,
+            },
+            src,
+            at,
+        ),
+        Target::Utf16 => valid_run(
+            Weights {
+                two: 0xF0,
+                three: 0xFF,
+                four: 0xFF,
+                five: 0xFF,
+                split: 0xFF,
+            },
+            src,
+            at,
+        ),
+        Target::Ucs4 => valid_run(
+            Weights {
+                two: 0xFF,
+                three: 0xFF,
+                four: 0xFF,
+                five: 0xFF,
+                split: 0xFF,
+            },
+            src,
+            at,
+        ),
+    }
+}
+
+// Not too many at once, so that blocks are tried again.
+fn bounded(left: usize) -> usize
+    ensures { λ r. ⌜ r ≤ left ⌝ }
+{
+    if left < 128 { left } else { 128 }
+}
+
+// Characters one by one, up to one that is not short or that the target does not hold.
+fn few(target: Target, src: &[u8], at: usize) -> Run
+    requires { ⌜ (at ≤ length (now src)) × (length (now src) ≤ 65536) ⌝ }
+    ensures { λ r. ⌜ Counted fssUtf (targetForm target) (now (src .entry)) at (r .length) (r .units) ⌝ }
+{
+    let room = bounded(src.len() - at);
+    let mut length: usize = 0;
+    let mut units: usize = 0;
+    while length < room {
+        let short = characters::fss_utf::short_at(src, at + length);
+        let taken = short.length;
+        if taken == 0 {
+            return Run { length, units };
+        }
+        let needed = encoder::encoded_length(target, short.value);
+        if needed == 0 {
+            return Run { length, units };
+        }
+        length += taken;
+        units += needed;
+    }
+    Run { length, units }
+}
+
+pub fn count(target: Target, src: &[u8], at: usize) -> Run
+    requires { ⌜ (at ≤ length (now src)) × (length (now src) ≤ 65536) ⌝ }
+    ensures { λ r. ⌜ Counted fssUtf (targetForm target) (now (src .entry)) at (r .length) (r .units) ⌝ }
+{
+    let ascii = ascii_length(src, at);
+    if ascii != 0 {
+        return Run {
+            length: ascii,
+            units: ascii,
+        };
+    }
+    let run = valid(target, src, at);
+    let length = run.length;
+    if length != 0 {
+        return run;
+    }
+    few(target, src, at)
 }

@@ -141,6 +141,11 @@ module _ {F G : Form} {s : List ℕ} where
         small = omega (arith, character-onward c);
       }
 
+-- units that are characters by themselves, each of which becomes one unit
+pub counted-units : {F G : Form} {s : List ℕ} {at : ℕ} (k : ℕ) → at ≤ length s → ((j : ℕ) → j < k → Counted F G s (at + j) 1 1) → Counted F G s at k k
+counted-units zero h f = counted-none h
+counted-units {F} {G} {s} {at} (suc k) h f = rw (← add-one k) (counted-join (counted-units k h (λ j m. f j (omega arith))) (f k (omega arith)))
+
 -- the sum of a function's values at k numbers from `at` on
 unfoldable pub sum : (ℕ → ℕ) → ℕ → ℕ → ℕ
 sum a at zero = 0

@@ -1,0 +1,27 @@
+use Rattle.fss_utf_runs.proofs.Counting.{ascii-counted}
+use borrow.Author.Needs.{needs}
+use Rattle.fss_utf_runs.proofs.count.count.Statement.{statement}
+use Rattle.fss_utf_runs.proofs.count.count.Tie as tie
+
+ascii-length-requires : tie.Need-ascii-length-requires
+ascii-length-requires c κs = search needs
+
+returns : tie.Need-returns
+returns c = ascii-counted (c .before .before .before .args .target) (c .before .ascii-length .ensures .0) (c .before .ascii-length .ensures .1)
+
+valid-requires : tie.Need-valid-requires
+valid-requires c κs = search needs
+
+returns-2 : tie.Need-returns-2
+returns-2 c = search needs
+
+few-requires : tie.Need-few-requires
+few-requires c κs = search needs
+
+returns-3 : tie.Need-returns-3
+returns-3 c = search needs
+
+pub count-spec : {M : Type 1} → statement M
+count-spec =
+    tie.close
+    (tie.spec ascii-length-requires returns valid-requires returns-2 few-requires returns-3)
