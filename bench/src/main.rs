@@ -1,0 +1,125 @@
+//! Times `libjiskromet.a` against what people would use instead, in one
+//! process, on the same bytes, interleaved. Every result is compared before it
+//! is timed.
+//!
+//! Usage: `bench [--quick] [--check] [--no-write] [--only WORDS]`
+
+mod buffer;
+mod groups;
+mod iconv;
+mod icu;
+mod plain;
+mod standard;
+mod text;
+mod timing;
+
+/// The second program's rules, declarations and random numbers.
+#[path = "../../second/src"]
+#[allow(dead_code, unused_imports)]
+mod second {
+    pub mod library;
+    pub mod random;
+    pub mod reference;
+}
+use second::{library, random, reference};
+
+use std::env;
+use std::io::{self, ErrorKind, Write};
+use std::process::ExitCode;
+
+use groups::{Run, Stop};
+use timing::Effort;
+
+const USAGE: &str = "usage: bench [--quick] [--check] [--no-write] [--only WORDS]
+
+  --quick       fewer rounds; prints only
+  --check       compares all results and times nothing
+  --no-write    prints, and leaves docs/SPEED.md and docs/speed.svg as they are
+  --only WORDS  only cases whose name has these words, as 'fss_utf_to_utf16' or
+                'utf16_to_ucs4 CJK 40 bytes'; prints only";
+
+struct Arguments {
+    quick: bool,
+    check: bool,
+    write: bool,
+    only: String,
+}
+
+impl Arguments {
+    fn parse(mut arguments: impl Iterator<Item = String>) -> Result<Self, String> {
+        let mut parsed = Arguments {
+            quick: false,
+            check: false,
+            write: true,
+            only: String::new(),
+        };
+        while let Some(argument) = arguments.next() {
+            match argument.as_str() {
+                "--quick" => parsed.quick = true,
+                "--check" => parsed.check = true,
+                "--no-write" => parsed.write = false,
+                "--only" => {
+                    parsed.only = arguments
+                        .next()
+                        .ok_or("--only names no words")?
+                        .to_lowercase();
+                }
+                _ => return Err(format!("unknown argument {argument}")),
+            }
+        }
+        // The page has the figures of a whole run and no other.
+        parsed.write &= !parsed.quick && !parsed.check && parsed.only.is_empty();
+        Ok(parsed)
+    }
+}
+
+fn main() -> ExitCode {
+    let arguments = match Arguments::parse(env::args().skip(1)) {
+        Ok(arguments) => arguments,
+        Err(why) => {
+            eprintln!("{why}\n{USAGE}");
+            return ExitCode::from(2);
+        }
+    };
+    match run(&arguments, &mut io::stdout().lock()) {
+        Ok(()) => ExitCode::SUCCESS,
+        // Who closed the pipe has read enough.
+        Err(Stop::Output(why)) if why.kind() == ErrorKind::BrokenPipe => ExitCode::SUCCESS,
+        Err(Stop::Output(why)) => {
+            eprintln!("{why}");
+            ExitCode::FAILURE
+        }
+        Err(Stop::Differs(why)) => {
+            eprintln!("{why}");
+            ExitCode::FAILURE
+        }
+    }
+}
+
+fn run(arguments: &Arguments, out: &mut dyn Write) -> Result<(), Stop> {
+    let effort = match (arguments.check, arguments.quick) {
+        (true, _) => None,
+        (_, true) => Some(Effort::QUICK),
+        _ => Some(Effort::FULL),
+    };
+    if effort.is_some() {
+        writeln!(
+            out,
+            "ns and GB/s are ours; under the others' names their time over ours, so that above 1 ours is faster"
+        )?;
+    }
+    let mut run = Run {
+        out,
+        effort,
+        only: arguments.only.clone(),
+        figures: Vec::new(),
+        compared: 0,
+    };
+    run.all()?;
+    let compared = run.compared;
+    writeln!(
+        out,
+        "\nthe results of all contestants agree in {compared} cases"
+    )?;
+    Ok(())
+}
