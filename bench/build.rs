@@ -20,10 +20,13 @@ fn main() {
     println!("cargo::rustc-link-search=native={}", folder.display());
     println!("cargo::rustc-link-lib=static=jiskromet");
     println!("cargo::rustc-env=BENCH_ARCHIVE={}", archive.display());
-    println!(
-        "cargo::rustc-env=BENCH_RUSTC={}",
-        first_line(Command::new(variable("RUSTC")).arg("--version")).unwrap_or_default()
-    );
+    for (name, program) in [
+        ("BENCH_RUSTC", variable("RUSTC")),
+        ("BENCH_GCC", "gcc".to_string()),
+    ] {
+        let version = first_line(Command::new(program).arg("--version"));
+        println!("cargo::rustc-env={name}={}", version.unwrap_or_default());
+    }
 
     println!("cargo::rustc-check-cfg=cfg(icu)");
     println!("cargo::rerun-if-env-changed=PKG_CONFIG_PATH");

@@ -70,7 +70,8 @@ impl Figures {
 /// Why a run ends before its time.
 #[derive(Debug)]
 pub enum Stop {
-    Differs(String),
+    /// Results differ, or something is missing.
+    Failed(String),
     Output(io::Error),
 }
 
@@ -312,7 +313,7 @@ impl Run<'_> {
         let src = Buffer::text(&text::encode::<F>(&characters));
         let mut dst = Buffer::new(Place::Result, reference::most_units::<F, G>(src.len()));
         let expected = reference::convert::<F, G>(&src)
-            .map_err(|why| Stop::Differs(format!("{}: {why:?}", case.label())))?;
+            .map_err(|why| Stop::Failed(format!("{}: {why:?}", case.label())))?;
         for (name, convert) in &mut contestants {
             dst.fill(G::Unit::default());
             let units = convert(&src, &mut dst);
@@ -393,7 +394,7 @@ impl Run<'_> {
         let mut values = Buffer::new(Place::Result, src.len());
         let mut starts = Buffer::new(Place::SecondResult, src.len());
         let expected = reference::decode_lossy::<F>(&src)
-            .map_err(|why| Stop::Differs(format!("{}: {why:?}", case.label())))?;
+            .map_err(|why| Stop::Failed(format!("{}: {why:?}", case.label())))?;
         for (name, decode) in &mut contestants {
             values.fill(0);
             starts.fill(0);
@@ -463,7 +464,7 @@ impl Run<'_> {
 
 fn differs(case: &Case, name: &str) -> Stop {
     let label = case.label();
-    Stop::Differs(match name {
+    Stop::Failed(match name {
         OURS => format!("{label}: the library's result is not the second program's"),
         _ => format!("{label}: the result of {name} is not the library's"),
     })

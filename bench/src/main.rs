@@ -8,8 +8,13 @@ mod buffer;
 mod groups;
 mod iconv;
 mod icu;
+mod page;
 mod plain;
+mod plot;
+mod sizes;
+mod stack;
 mod standard;
+mod targets;
 mod text;
 mod timing;
 
@@ -24,10 +29,13 @@ mod second {
 use second::{library, random, reference};
 
 use std::env;
+use std::fs;
 use std::io::{self, ErrorKind, Write};
+use std::path::Path;
 use std::process::ExitCode;
 
-use groups::{Run, Stop};
+use groups::{Figures, Run, Stop};
+use targets::TARGETS;
 use timing::Effort;
 
 const USAGE: &str = "usage: bench [--quick] [--check] [--no-write] [--only WORDS]
@@ -89,7 +97,7 @@ fn main() -> ExitCode {
             eprintln!("{why}");
             ExitCode::FAILURE
         }
-        Err(Stop::Differs(why)) => {
+        Err(Stop::Failed(why)) => {
             eprintln!("{why}");
             ExitCode::FAILURE
         }
@@ -116,10 +124,57 @@ fn run(arguments: &Arguments, out: &mut dyn Write) -> Result<(), Stop> {
         compared: 0,
     };
     run.all()?;
-    let compared = run.compared;
+    let Run {
+        figures, compared, ..
+    } = run;
+    if compared == 0 {
+        return Err(Stop::Failed(format!(
+            "no case has the words '{}'",
+            arguments.only
+        )));
+    }
+    if effort.is_some() {
+        print_targets(out, &figures)?;
+    }
     writeln!(
         out,
         "\nthe results of all contestants agree in {compared} cases"
     )?;
+    if let Some(effort) = effort.filter(|_| arguments.write) {
+        write_page(out, &figures, effort)?;
+    }
+    Ok(())
+}
+
+/// The targets that this run can say something about.
+fn print_targets(out: &mut dyn Write, figures: &[Figures]) -> io::Result<()> {
+    writeln!(out, "\nat least     worst")?;
+    for target in TARGETS {
+        if let Some(worst) = target.worst(figures) {
+            let reached = if target.reached(&worst) {
+                ""
+            } else {
+                "  NOT REACHED"
+            };
+            writeln!(
+                out,
+                "{:8}{:10.2}  {}: {}{reached}",
+                target.least,
+                worst.ratio,
+                target.what,
+                worst.figures.case.label()
+            )?;
+        }
+    }
+    Ok(())
+}
+
+fn write_page(out: &mut dyn Write, figures: &[Figures], effort: Effort) -> Result<(), Stop> {
+    let docs = Path::new(env!("CARGO_MANIFEST_DIR")).join("../docs");
+    let sizes = sizes::of_archive().map_err(Stop::Failed)?;
+    let page = page::figures(figures, effort, &sizes, &stack::depths());
+    page::update(&docs.join("SPEED.md"), &page).map_err(Stop::Failed)?;
+    fs::write(docs.join("speed.svg"), plot::svg(figures))?;
+    writeln!(out, "docs/SPEED.md and docs/speed.svg are written")?;
     Ok(())
 }
