@@ -30,6 +30,7 @@ fn main() {
 
     println!("cargo::rustc-check-cfg=cfg(icu)");
     println!("cargo::rerun-if-env-changed=PKG_CONFIG_PATH");
+    println!("cargo::rerun-if-env-changed=PKG_CONFIG_LIBDIR");
     println!("cargo::rerun-if-changed=src/icu.c");
     link_icu(&package);
 }

@@ -33,6 +33,11 @@ pub struct Case {
 }
 
 impl Case {
+    /// Whether a call reads the whole text.
+    fn reads_all(&self) -> bool {
+        !self.call.ends_with("_item_start")
+    }
+
     pub fn label(&self) -> String {
         let struck = if self.struck { " struck" } else { "" };
         format!(
@@ -114,11 +119,13 @@ impl Run<'_> {
         case.label().to_lowercase().contains(&self.only)
     }
 
-    /// Times a case whose results have been compared.
+    /// Times a case whose results have been compared. `once` makes so many
+    /// calls.
     fn time<C>(
         &mut self,
         case: Case,
         source_bytes: usize,
+        calls: usize,
         contestants: &mut [(&'static str, C)],
         once: impl FnMut(&mut (&'static str, C)),
     ) -> Result<(), Stop> {
@@ -131,7 +138,9 @@ impl Run<'_> {
         let figures = Figures {
             case,
             source_bytes,
-            times: names.zip(times).collect(),
+            times: names
+                .zip(times.iter().map(|time| time / calls as f64))
+                .collect(),
         };
         self.print(&figures)?;
         self.figures.push(figures);
@@ -149,18 +158,22 @@ impl Run<'_> {
         if new {
             let struck = if case.struck { ", struck" } else { "" };
             writeln!(self.out, "\n{}, {}{struck}", case.call, case.size.name())?;
-            write!(self.out, "{:10}{:>10}{:>8}", "class", "ns", "GB/s")?;
+            let rate = if case.reads_all() { "GB/s" } else { "" };
+            write!(self.out, "{:10}{:>10}{rate:>8}", "class", "ns")?;
             for (name, _) in others {
                 write!(self.out, "{name:>11}")?;
             }
             writeln!(self.out)?;
         }
+        let rate = match case.reads_all() {
+            true => format!("{:.2}", figures.gigabytes_per_second()),
+            false => String::new(),
+        };
         write!(
             self.out,
-            "{:10}{:>10.1}{:>8.2}",
+            "{:10}{:>10.1}{rate:>8}",
             case.class.name(),
-            figures.ours(),
-            figures.gigabytes_per_second()
+            figures.ours()
         )?;
         for (_, time) in others {
             write!(self.out, "{:>11.2}", time / figures.ours())?;
@@ -329,6 +342,7 @@ impl Run<'_> {
         self.time(
             case,
             size_of_val(&*src),
+            1,
             &mut contestants,
             |(_, convert)| {
                 black_box(convert(black_box(&src), black_box(&mut dst)));
@@ -412,13 +426,19 @@ impl Run<'_> {
                 return Err(differs(&case, name));
             }
         }
-        self.time(case, size_of_val(&*src), &mut contestants, |(_, decode)| {
-            black_box(decode(
-                black_box(&src),
-                black_box(&mut values),
-                black_box(&mut starts),
-            ));
-        })
+        self.time(
+            case,
+            size_of_val(&*src),
+            1,
+            &mut contestants,
+            |(_, decode)| {
+                black_box(decode(
+                    black_box(&src),
+                    black_box(&mut values),
+                    black_box(&mut starts),
+                ));
+            },
+        )
     }
 
     fn finders(&mut self) -> Result<(), Stop> {
@@ -428,11 +448,13 @@ impl Run<'_> {
         self.finder::<UtfEbcdic>()
     }
 
-    /// The finder at offset 10 and at offset 65,000 of a text that has the same
-    /// units around both.
+    /// The finder at the offsets from 10 on and at those from 65,000 on, of a
+    /// text that has the same units around both. A call is so short that one
+    /// alone would tell of the loop around it.
     fn finder<F: Linked>(&mut self) -> Result<(), Stop> {
         const NEAR: usize = 10;
         const DISTANT: usize = 65_000;
+        const CALLS: usize = 8;
         for class in Class::ALL {
             let case = Case {
                 call: format!("{}_item_start", id(F::NAME)),
@@ -447,15 +469,20 @@ impl Run<'_> {
             units.copy_within(..2 * NEAR, DISTANT - NEAR);
             let src = Buffer::text(&units);
             let mut contestants = [(OURS, NEAR), (FAR, DISTANT)];
-            for (name, offset) in contestants {
-                let start = F::item_start(&src, offset);
-                let expected = reference::item_start::<F>(&src, offset);
-                if start.fault != 0 || expected != Ok(start.start as usize) {
-                    return Err(differs(&case, name));
+            for (name, first) in contestants {
+                for offset in first..first + CALLS {
+                    let start = F::item_start(&src, offset);
+                    let expected = reference::item_start::<F>(&src, offset);
+                    if start.fault != 0 || expected != Ok(start.start as usize) {
+                        return Err(differs(&case, name));
+                    }
                 }
             }
-            self.time(case, size_of_val(&*src), &mut contestants, |(_, offset)| {
-                black_box(F::item_start(black_box(&src), black_box(*offset)));
+            let bytes = size_of_val(&*src);
+            self.time(case, bytes, CALLS, &mut contestants, |(_, first)| {
+                for offset in *first..*first + CALLS {
+                    black_box(F::item_start(black_box(&src), black_box(offset)).start);
+                }
             })?;
         }
         Ok(())

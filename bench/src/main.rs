@@ -178,3 +178,50 @@ fn write_page(out: &mut dyn Write, figures: &[Figures], effort: Effort) -> Resul
     writeln!(out, "docs/SPEED.md and docs/speed.svg are written")?;
     Ok(())
 }
+
+#[cfg(test)]
+mod tests {
+    use super::*;
+
+    struct ClosedPipe;
+
+    impl Write for ClosedPipe {
+        fn write(&mut self, _: &[u8]) -> io::Result<usize> {
+            Err(ErrorKind::BrokenPipe.into())
+        }
+
+        fn flush(&mut self) -> io::Result<()> {
+            Err(ErrorKind::BrokenPipe.into())
+        }
+    }
+
+    fn parse(words: &str) -> Result<Arguments, String> {
+        Arguments::parse(words.split_whitespace().map(str::to_string))
+    }
+
+    #[test]
+    fn a_closed_pipe_ends_the_run() {
+        for words in [
+            "--check --only item_start",
+            "--quick --only ucs4_item_start",
+        ] {
+            let ended = run(&parse(words).unwrap(), &mut ClosedPipe);
+            assert!(matches!(ended, Err(Stop::Output(_))), "{words}");
+        }
+    }
+
+    #[test]
+    fn only_a_whole_run_writes_the_page() {
+        assert!(parse("").unwrap().write);
+        for words in ["--quick", "--check", "--no-write", "--only utf16"] {
+            assert!(!parse(words).unwrap().write, "{words}");
+        }
+        assert!(parse("--fast").is_err() && parse("--only").is_err());
+    }
+
+    #[test]
+    fn words_that_no_case_has_are_told() {
+        let ended = run(&parse("--check --only utf7").unwrap(), &mut io::sink());
+        assert!(matches!(ended, Err(Stop::Failed(_))));
+    }
+}

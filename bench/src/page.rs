@@ -142,6 +142,7 @@ pub fn figures(
     let mut page = String::new();
     machine(&mut page, effort);
     targets(&mut page, all);
+    library(&mut page, sizes, depths);
     let results = Results(all);
     for size in Size::ALL {
         strict(&mut page, &results, size);
@@ -150,17 +151,19 @@ pub fn figures(
     lossy(&mut page, &results);
     finder(&mut page, &results);
     speeds(&mut page, &results);
-    library(&mut page, sizes, depths);
+    page.truncate(page.trim_end().len());
+    page.push('\n');
     page
 }
 
 fn machine(page: &mut String, effort: Effort) {
-    let icu = icu::version().map_or("not installed".to_string(), |version| {
-        format!("ICU {version}")
-    });
+    let icu = match icu::version() {
+        Some(version) => format!("ICU {version}"),
+        None => "no ICU".to_string(),
+    };
     let _ = writeln!(
         page,
-        "Taken on {} on {}, by {}, {}, glibc {}, {icu}. Each figure is the least time of {} rounds.\n",
+        "Taken on {} on {}, with {}, {}, glibc {} and {icu}. Each figure is the least time of {} rounds.\n",
         date(),
         processor(),
         env!("BENCH_RUSTC"),
@@ -351,46 +354,40 @@ fn speeds(page: &mut String, results: &Results) {
 }
 
 fn library(page: &mut String, sizes: &Sizes, depths: &[(&'static str, usize)]) {
+    const CONVERSION: &str = "a conversion, which ends in a form's name";
+    let kind = |name: &'static str| match name.ends_with("_length") {
+        false if name.contains("_to_") => CONVERSION,
+        _ => name,
+    };
+    let mut rows = String::new();
     let thousands = |bytes: usize| match bytes {
         1000.. => format!("{},{:03}", bytes / 1000, bytes % 1000),
         _ => bytes.to_string(),
     };
-    let (deepest, bytes) = depths[0];
-    let (kinds, mut rows) = (
-        [
-            ("_length", "a length"),
-            ("_decode_lossy", "a lossy decoding"),
-            ("_item_at", "an item at an offset"),
-            ("_item_start", "an item start"),
-        ],
-        String::new(),
-    );
-    let converter = depths
-        .iter()
-        .find(|(name, _)| name.contains("_to_") && !name.ends_with("_length"));
-    let mut deep = |what: &str, call: Option<&(&str, usize)>| {
-        if let Some((name, bytes)) = call {
+    let mut row = |what: &str, end: &str| {
+        let deepest = depths.iter().find(|(name, _)| kind(name).ends_with(end));
+        if let Some((name, bytes)) = deepest {
             let _ = writeln!(
                 rows,
-                "| deepest stack of {what} | {} bytes, `{name}` |",
+                "| deepest stack of {what} | {} bytes (`{name}`) |",
                 thousands(*bytes)
             );
         }
     };
-    deep("a converter", converter);
-    for (end, what) in kinds {
-        deep(what, depths.iter().find(|(name, _)| name.ends_with(end)));
-    }
+    row("a call", "");
+    row("a strict conversion", CONVERSION);
+    row("a length", "_length");
+    row("a lossy decoding", "_decode_lossy");
+    row("an item at an offset", "_item_at");
+    row("an item start", "_item_start");
     let _ = write!(
         page,
         "## Sizes\n\n\
          | what | how much |\n|---|---|\n\
          | code | {} bytes |\n\
-         | constants | {} bytes |\n\
-         | deepest stack of all calls | {} bytes, `{deepest}` |\n{rows}",
+         | constants | {} bytes |\n{rows}\n",
         thousands(sizes.code),
         thousands(sizes.constants),
-        thousands(bytes),
     );
 }
 

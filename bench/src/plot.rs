@@ -133,7 +133,7 @@ fn legend(svg: &mut String) {
     for class in Class::ALL {
         bar(svg, x, 44.0, 14.0, 14.0, colour(class));
         text(svg, x + 20.0, 56.0, &style, class.name());
-        x += 46.0 + 9.0 * class.name().len() as f64;
+        x += 48.0 + 8.0 * class.name().len() as f64;
     }
     line(
         svg,
@@ -207,12 +207,17 @@ fn draw(svg: &mut String, results: &Results, panel: &Panel, top: f64) {
                 (end - one).abs().max(1.0),
                 colour(class),
             );
-            let y = if ratio >= 1.0 { end - 5.0 } else { end + 14.0 };
             let style = format!(
                 "font-size=\"11.5\" text-anchor=\"middle\" fill=\"{DARK}\" \
                  stroke=\"#FFFFFF\" stroke-width=\"3\" paint-order=\"stroke\""
             );
             let asked = foot - axis.height(least);
+            let y = match ratio >= 1.0 {
+                // Above the bar, and above a mark that would cross it.
+                true if (end - 17.0..end).contains(&asked) => asked - 5.0,
+                true => end - 5.0,
+                false => end + 14.0,
+            };
             line(
                 svg,
                 (x + 1.5, asked),

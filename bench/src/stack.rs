@@ -5,7 +5,8 @@
 use std::arch::asm;
 
 use crate::buffer::{Buffer, Place};
-use crate::reference::{Form, FssUtf, Ucs4, Utf16, UtfEbcdic, LONGEST_TEXT};
+use crate::random::{self, Drawn, Random};
+use crate::reference::{FssUtf, Ucs4, Utf16, UtfEbcdic, LONGEST_TEXT};
 use crate::text::{self, Class, Size};
 
 const PAINT: u64 = 0xA5A5_5A5A_C3C3_3C3C;
@@ -105,9 +106,16 @@ impl Stack {
     }
 }
 
-/// The texts of a form, good and damaged, and one that is too long.
-fn texts<F: Form>() -> Vec<Vec<F::Unit>> {
+/// The texts of a form, good and damaged; some of characters that only this
+/// form has; and one that is too long.
+fn texts<F: Drawn>() -> Vec<Vec<F::Unit>> {
     let mut texts = vec![Vec::new(), vec![F::unit(0x41); LONGEST_TEXT + 1]];
+    let mut random = Random::new(200);
+    for _ in 0..200 {
+        let mut text = Vec::new();
+        random::draw::<F>(&mut text, 200, &mut random);
+        texts.push(text);
+    }
     for size in Size::ALL {
         for class in Class::ALL {
             let good = text::encode::<F>(&text::characters(class, size));
@@ -119,7 +127,7 @@ fn texts<F: Form>() -> Vec<Vec<F::Unit>> {
 }
 
 /// The deepest stack of each export that reads a form, over all texts.
-fn depths_of<F: Form>(form: &str, deepest: &mut Vec<(&'static str, usize)>) {
+fn depths_of<F: Drawn>(form: &str, deepest: &mut Vec<(&'static str, usize)>) {
     let mut stack = Stack::new();
     let mut values = Buffer::<u32>::new(Place::Result, ROOM);
     let mut starts = Buffer::<u32>::new(Place::SecondResult, ROOM);

@@ -63,17 +63,17 @@ fn ascii(figures: &Figures) -> bool {
 
 pub const TARGETS: &[Target] = &[
     Target {
-        what: "the six pairs of iconv, 64 KiB, every class",
+        what: "the six pairs of iconv against it, 64 KiB, every class",
         least: 1.5,
         ratio: |figures| against(figures, ICONV, Size::Long),
     },
     Target {
-        what: "the six pairs of iconv, 64 KiB, ASCII",
+        what: "the six pairs of iconv against it, 64 KiB, ASCII",
         least: 8.0,
         ratio: |figures| against(figures, ICONV, Size::Long).filter(|_| ascii(figures)),
     },
     Target {
-        what: "FSS-UTF to and from UTF-16 against ICU, 64 KiB, every class but Latin",
+        what: "FSS-UTF to and from UTF-16 against ICU, 64 KiB, each class but Latin",
         least: 1.0,
         ratio: |figures| icu(figures).filter(|_| figures.case.class != Class::Latin),
     },
@@ -88,12 +88,12 @@ pub const TARGETS: &[Target] = &[
         ratio: |figures| icu(figures).filter(|_| ascii(figures)),
     },
     Target {
-        what: "the six pairs of iconv, 40 bytes, every class",
+        what: "the six pairs of iconv against it, 40 bytes, every class",
         least: 1.0,
         ratio: |figures| against(figures, ICONV, Size::Short),
     },
     Target {
-        what: "the six pairs against ICU, 40 bytes, ASCII",
+        what: "the six pairs of iconv against ICU, 40 bytes, ASCII",
         least: 1.0,
         ratio: |figures| {
             let converts = figures.ratio(ICONV).is_some();
@@ -131,7 +131,7 @@ pub const TARGETS: &[Target] = &[
         ratio: |figures| against(figures, CONVERTER, Size::Short),
     },
     Target {
-        what: "item start, offset 10 and offset 65,000: the lesser time over the greater",
+        what: "item start at offset 10 and at offset 65,000, the lesser time over the greater",
         least: 0.9,
         ratio: |figures| figures.ratio(FAR).map(|ratio| ratio.min(1.0 / ratio)),
     },
