@@ -1,6 +1,7 @@
 //! Interleaved timing: every round gives each contestant a turn, so that
 //! whatever slows the machine slows them alike.
 
+use std::hint::black_box;
 use std::time::{Duration, Instant};
 
 #[derive(Clone, Copy)]
@@ -31,13 +32,33 @@ pub fn time<C>(contestants: &mut [C], effort: Effort, mut once: impl FnMut(&mut 
         }));
     }
     let mut least = vec![f64::INFINITY; contestants.len()];
-    for _ in 0..effort.rounds {
+    for round in 0..effort.rounds {
         for ((contestant, &count), least) in contestants.iter_mut().zip(&calls).zip(&mut least) {
-            let spent = repeat(count, || once(contestant));
+            let spent = moved(round, || repeat(count, || once(contestant)));
             *least = least.min(spent.as_nanos() as f64 / count as f64);
         }
     }
     least
+}
+
+/// Runs with the stack at one of four places, a quarter of a page and of a
+/// cache line apart. Where a process has its stack is luck, and a frame that
+/// straddles two pages can cost a call a third of its time.
+fn moved<R>(round: usize, run: impl FnOnce() -> R) -> R {
+    match round % 4 {
+        0 => padded::<16, R>(run),
+        1 => padded::<1056, R>(run),
+        2 => padded::<2096, R>(run),
+        _ => padded::<3136, R>(run),
+    }
+}
+
+#[inline(never)]
+fn padded<const BYTES: usize, R>(run: impl FnOnce() -> R) -> R {
+    let padding = black_box([0_u8; BYTES]);
+    let answer = run();
+    black_box(padding);
+    answer
 }
 
 fn repeat(count: u64, mut once: impl FnMut()) -> Duration {
