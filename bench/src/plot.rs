@@ -61,7 +61,8 @@ impl Axis {
         let least = values.iter().copied().fold(0.7, f64::min);
         let most = values.iter().copied().fold(10.0, f64::max);
         let below = TICKS.iter().rev().find(|tick| **tick <= least);
-        let above = TICKS.iter().find(|tick| **tick > most);
+        // Room for the label of the highest bar.
+        let above = TICKS.iter().find(|tick| **tick > 1.2 * most);
         Axis {
             low: *below.unwrap_or(&TICKS[0]),
             high: *above.unwrap_or(&TICKS[TICKS.len() - 1]),
