@@ -1,5 +1,5 @@
 # Two commands do everything on a machine with the kit: `make listing` and `make test`.
-.PHONY: listing test check library install
+.PHONY: listing test check library bench install
 
 PREFIX ?= /usr/local
 
@@ -19,6 +19,11 @@ check:
 # Builds target/staticlib/libjiskromet.a, for C and Rust to link.
 library:
 	rt staticlib jiskromet
+
+# Times the library against other converters, and writes the figures to docs/SPEED.md and docs/speed.svg.
+bench: library
+	cargo build --quiet --release --offline --manifest-path bench/Cargo.toml
+	./bench/target/release/bench
 
 # Installs the archive, the header, a pkg-config file and the listing program below PREFIX (with DESTDIR before it, for packagers).
 install: library
