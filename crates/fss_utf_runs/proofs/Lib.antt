@@ -2,3 +2,4 @@ pub mod Validating
 pub mod WellFormed
 pub mod TargetWeights
 pub mod Counting
+pub mod KnownBytes

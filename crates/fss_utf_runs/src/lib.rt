@@ -3,3 +3,4 @@
 // `count` is for the measure; each other module writes in one target. A run is whole characters; what none of these functions takes is left
 // to the item reader. The promises are `Counted` and `Wrote` in `Runs` of `laws`.
 pub mod count;
+pub mod known;
