@@ -10,7 +10,7 @@ use Rattle.forms.specs.Forms.{byteLayout, fssUtf}
 use Rattle.laws.proofs.Blocks.{AtMost}
 use Rattle.laws.proofs.Progress.{CharacterAt}
 use Rattle.laws.proofs.ReadUnits.{read-units}
-use Rattle.laws.proofs.Runs.{Counted, counted-one, counted-join, counted-units}
+use Rattle.laws.proofs.Runs.{Run, run-one, Counted, counted-one, counted-join, counted-units}
 use Rattle.tables.specs.declared.ByteForm.{ByteForm}
 use Rattle.tables.specs.declared.ByteForm.the-variants as form
 use Rattle.tables.proofs.ByteLayouts.{not-excluded, encode-length}
@@ -45,3 +45,9 @@ module _ {s : List ℕ} {at : ℕ} where
       (t : Target) {k u v n w : ℕ} → Counted fssUtf (targetForm t) s at k u → CharacterAt fssUtf s (at + k) v (span (at + k) n) → w ≡ length (encode (targetForm t) v) → (w ≡ 0 → ⊥)
       → Counted fssUtf (targetForm t) s at (k + n) (u + w)
   counted-more t {k} {u} {v} c a e z = counted-join c (counted-one a e z (encode-seven t v))
+
+-- an ASCII character that is written as itself
+pub ascii-run : {G : Form} {s : List ℕ} {p x : ℕ} → p < length s → getD s p 0 < 0x80 → encode G (getD s p 0) ≡ getD s p 0 ∷ [] → x ≡ getD s p 0 → Run fssUtf G s p 1 (x ∷ [])
+ascii-run {G} {s} {p} {x} h l e q =
+    let r = run-one {G = G} (ascii-at s p h l) (λ n. let z : _≡_ {A = ℕ} 0 1 = cc in omega arith) in
+    rw (q, ← e) r

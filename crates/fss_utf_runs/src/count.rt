@@ -276,7 +276,7 @@ fn valid(target: Target, src: &[u8], at: usize) -> Run
 }
 
 // Not too many at once, so that blocks are tried again.
-fn bounded(left: usize) -> usize
+pub fn bounded(left: usize) -> usize
     ensures { λ r. ⌜ r ≤ left ⌝ }
 {
     if left < 128 { left } else { 128 }

@@ -4,3 +4,5 @@
 // to the item reader. The promises are `Counted` and `Wrote` in `Runs` of `laws`.
 pub mod count;
 pub mod known;
+pub mod to_ucs4;
+pub mod to_utf16;

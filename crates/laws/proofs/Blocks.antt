@@ -8,7 +8,8 @@ use native.Mathlib.Decide.{decLt, ℕ-discrete}
 use borrow.Author.Count.{below-more}
 use lib.Bits.{bitOr, bitAnd, or-add-and, and-le-l, and-le-r}
 use lib.ListN.{length, getD, set, length-set}
-use lib.Seq.{getD-set-same, getD-set-other}
+use lib.Seq.{getD-set-same, getD-set-other, paste}
+use Rattle.laws.proofs.Buffers.{copy-begin, copy-more}
 
 -- what holds at each of n numbers from `at` on
 pub record Each (P : ℕ → Type 0) (at n : ℕ) : Type 0 where
@@ -78,3 +79,21 @@ held-more {g} {s} {b} {at} {n} {j} x h l e =
   where
     before : (k : ℕ) → k < j → getD (set b j x) k 0 ≡ g (getD s (at + k) 0)
     before k i = getD-set-other b j k x 0 (λ z. omega (arith, z)) ∙ h .each k i
+
+-- the first k of the c cells of b, copied into the buffer d from n on
+pub record Copied (d : List ℕ) (n c : ℕ) (b : List ℕ) (k : ℕ) (o : List ℕ) : Type 0 where
+  pub most : k ≤ c
+  pub cells : o ≡ paste d n b k
+  pub same : length o ≡ length d
+
+pub copied-none : {d b : List ℕ} {n c : ℕ} → Copied d n c b 0 d
+copied-none {d} {b} {n} = record { most = omega arith; cells = copy-begin d n b; same = refl }
+
+pub copied-more :
+    {d b o : List ℕ} {n c k : ℕ} → Copied d n c b k o → n + c ≤ length d → length b ≡ c → k < c → Copied d n c b (k + 1) (set o (n + k) (getD b k 0))
+copied-more {d} {b} {o} {n} {c} {k} a h l i =
+    record {
+      most = omega arith;
+      cells = copy-more d n b k o (a .cells) (omega arith) (omega arith);
+      same = length-set o (n + k) (getD b k 0) ∙ a .same;
+    }

@@ -4,7 +4,8 @@ use mathlib.Core.Path.{_≡_, refl, sym, ap, _∙_}
 use mathlib.Core.List.{List, [], _∷_, _++_, append-assoc}
 use native.Mathlib.Omega.{arith}
 use native.Mathlib.Numerals.{add-one}
-use lib.ListN.{length, take, drop, set, getD, length-append, length-drop}
+use native.Mathlib.Nat.{add-zero, add-assoc}
+use lib.ListN.{length, take, drop, set, getD, length-append, length-drop, take-append-drop}
 use lib.Seq.{length-take-le, take-at, drop-at, drop-drop, paste, paste-zero, paste-suc, length-paste}
 use Rattle.forms.specs.Buffer.{withUnits, Holds}
 
@@ -52,3 +53,20 @@ length-with d e o at q h =
 
 pub front-within : {r : ℕ} {t d o : List ℕ} → Holds d t r o → r ≤ length o
 front-within {r} {t} {d} {o} h = omega (arith, h .counted, ap length (h .cells), length-append t (drop r d))
+
+-- units put in behind units
+pub with-none : (d : List ℕ) (n : ℕ) → d ≡ withUnits d n []
+with-none d n = rw (add-zero n) (sym (take-append-drop n d))
+
+pub with-join : (d a b : List ℕ) (n : ℕ) → n + length a ≤ length d → withUnits (withUnits d n a) (n + length a) b ≡ withUnits d n (a ++ b)
+with-join d a b n h =
+    let o = withUnits d n a in
+    let front = take n d ++ a in
+    let rest = drop (n + length a) d in
+    let e : o ≡ front ++ rest = sym (append-assoc (take n d) a rest) in
+    let l : length front ≡ n + length a = length-append (take n d) a ∙ ap (λ (x : ℕ). x + length a) (length-take-le n d (omega arith)) in
+    let t : take (n + length a) o ≡ front = ap (take (n + length a)) e ∙ take-at front rest (n + length a) l in
+    let r : drop (n + length a) o ≡ rest = ap (drop (n + length a)) e ∙ drop-at front rest (n + length a) l in
+    let q : drop (n + length a + length b) o ≡ drop (n + (length a + length b)) d =
+    sym (drop-drop (length b) (n + length a) o) ∙ ap (drop (length b)) r ∙ drop-drop (length b) (n + length a) d ∙ ap (λ (x : ℕ). drop x d) (add-assoc n (length a) (length b)) in
+    rw (t, q, length-append a b, append-assoc (take n d) a, append-assoc a b)

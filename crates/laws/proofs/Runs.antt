@@ -8,7 +8,7 @@ use native.Mathlib.Nat.{add-zero, add-assoc}
 use native.Mathlib.Numerals.{add-one}
 use native.Mathlib.Decide.{decLt}
 use lib.ListN.{length, getD, take, drop, length-append}
-use lib.Seq.{take-suc}
+use lib.Seq.{take-suc, length-take-le}
 use Rattle.types.specs.declared.Fault.{Fault}
 use Rattle.types.specs.declared.Span.{Span}
 use Rattle.types.specs.declared.Item.{Item}
@@ -18,6 +18,8 @@ use Rattle.forms.specs.Buffer.{withUnits}
 use Rattle.forms.specs.Conversion.{Outcome, converted, refused, encoding, refusalAt, prepend, put, convertItems, outcome}
 use Rattle.laws.proofs.Items.{itemsOnward, sequenceAt, items-step, length-at}
 use Rattle.laws.proofs.Characters.{prepend-converted, put-some, put-converted}
+use Rattle.laws.proofs.Blocks.{Copied}
+use Rattle.laws.proofs.Buffers.{copy-end, with-none, with-join, length-with}
 use Rattle.laws.proofs.Progress.{CharacterAt, MarkAt, Progress, character-onward, prepend-none, prepend-twice}
 
 -- k units from `at` on are whole characters, and become the units `out`
@@ -140,6 +142,128 @@ module _ {F G : Form} {s : List ℕ} where
         counted = l;
         small = omega (arith, character-onward c);
       }
+
+module _ {F G : Form} {s : List ℕ} where
+  pub wrote-none : {at n : ℕ} {d : List ℕ} → at ≤ length s → Wrote F G s at 0 0 d n d
+  wrote-none {at} {n} {d} h = record { out = []; run = run-none h; counted = refl; cells = with-none d n }
+
+  pub wrote-join :
+      {at k l u w n : ℕ} {d o p : List ℕ} → n + u ≤ length d → Wrote F G s at k u d n o → Wrote F G s (at + k) l w o (n + u) p → Wrote F G s at (k + l) (u + w) d n p
+  wrote-join {at} {k} {l} {u} {w} {n} {d} {o} {p} h a b =
+      record {
+        out = a .out ++ b .out;
+        run = run-join (a .run) (b .run);
+        counted = omega (arith, a .counted, b .counted, length-append (a .out) (b .out));
+        cells = b .cells ∙ rw (a .cells, a .counted) (with-join d (a .out) (b .out) n (rw (a .counted) at h));
+      }
+
+  -- nothing was written
+  pub wrote-idle : {at n : ℕ} {d o : List ℕ} → Wrote F G s at 0 0 d n o → o ≡ d
+  wrote-idle {at} {n} {d} {o} a = go (a .out) (a .counted) (a .cells)
+    where
+      go : (x : List ℕ) → 0 ≡ length x → o ≡ withUnits d n x → o ≡ d
+      go [] e w = w ∙ sym (with-none d n)
+      go (y ∷ ys) e w = absurd (omega arith)
+
+  -- a block of single units, copied out of a local array
+  pub wrote-block :
+      {at n c k : ℕ} {b d o : List ℕ} → at ≤ length s → length b ≡ c → ((j : ℕ) → j < c → Run F G s (at + j) 1 (getD b j 0 ∷ [])) → Copied d n c b k o → c ≤ k
+      → Wrote F G s at c c d n o
+  wrote-block {at} {n} {c} {k} {b} {d} {o} h l f e y =
+      record {
+        out = take c b;
+        run = run-block b c h (omega arith) f;
+        counted = sym (length-take-le c b (omega arith));
+        cells = e .cells ∙ copy-end d n b c k (omega (arith, e .most)) (omega arith);
+      }
+
+  -- the buffer keeps its length
+  pub wrote-length : {at k u n : ℕ} {d o : List ℕ} → n + u ≤ length d → Wrote F G s at k u d n o → length o ≡ length d
+  wrote-length {at} {k} {u} {n} {d} {o} h a = length-with d (a .out) o n (a .cells) (omega (arith, a .counted))
+
+  -- one character written by its encoding
+  pub wrote-one :
+      {p v n m : ℕ} {q : Span} {d o : List ℕ} → CharacterAt F s p v q → encode G v ≢ [] → m ≡ n + length (encode G v) → o ≡ withUnits d n (encode G v)
+      → Wrote F G s p (q .length) (m - n) d n o
+  wrote-one {p} {v} {n} {m} c h e w = record { out = encode G v; run = run-one c h; counted = omega arith; cells = w }
+
+  -- what was written leaves the rest convertible
+  pub wrote-convertible : {at k u n m : ℕ} {d o : List ℕ} → Convertible F G s at n m → Wrote F G s at k u d n o → (n + u ≤ m) × Convertible F G s (at + k) (n + u) m
+  wrote-convertible c a = rw (a .counted) (convertible-run c (a .run))
+
+-- the loop that writes character by character: what was written, and that the rest is convertible
+pub record WritingRun (F G : Form) (s : List ℕ) (at n : ℕ) (d : List ℕ) (k u : ℕ) (o : List ℕ) : Type 0 where
+  pub wrote : Wrote F G s at k u d n o
+  pub left : Convertible F G s (at + k) (n + u) (length d)
+  pub room : n + u ≤ length d
+  pub same : length o ≡ length d
+
+module _ {F G : Form} {s : List ℕ} {at n : ℕ} {d : List ℕ} where
+  pub writing-run-begin : at ≤ length s → Convertible F G s at n (length d) → WritingRun F G s at n d 0 0 d
+  writing-run-begin h c =
+      record {
+        wrote = wrote-none h;
+        left = rw (add-zero at, add-zero n) c;
+        room = omega (arith, c .fits);
+        same = refl;
+      }
+
+  module _ {k u : ℕ} {o : List ℕ} (w : WritingRun F G s at n d k u o) where
+    -- a character stands where the next is to be read
+    pub writing-run-stands : at + k < length s → Stands F s (at + k)
+    writing-run-stands h = convertible-stands h (w .left)
+
+    module _ {v : ℕ} {q : Span} (c : CharacterAt F s (at + k) v q) where
+      -- the target holds it, and has room for it
+      pub writing-run-held : (encode G v ≢ []) × (n + u + length (encode G v) ≤ length o)
+      writing-run-held =
+          let h = convertible-character (w .left) c in
+          (h, omega (arith, convertible-run (w .left) (run-one c h) .0, w .same))
+
+      pub writing-run-more : {m : ℕ} {p : List ℕ} → m ≡ n + u + length (encode G v) → p ≡ withUnits o (n + u) (encode G v) → WritingRun F G s at n d (k + q .length) (m - n) p
+      writing-run-more {m} {p} e x =
+          let h = writing-run-held in
+          let one = wrote-one c (h .0) e x in
+          let y : u + (m - (n + u)) ≡ m - n = omega arith in
+          let j : Wrote F G s at (k + q .length) (m - n) d n p = rw y at (wrote-join (w .room) (w .wrote) one) in
+          let r = run-one {G = G} c (h .0) in
+          let l = convertible-run (w .left) r in
+          let a : at + k + q .length ≡ at + (k + q .length) = omega arith in
+          let b : n + u + length (encode G v) ≡ n + (m - n) = omega arith in
+          record {
+            wrote = j;
+            left = rw (a, b) at (l .1);
+            room = omega (arith, l .0);
+            same = length-with o (encode G v) p (n + u) x (h .1) ∙ w .same;
+          }
+
+-- the loop that writes block by block, a unit for each unit
+pub record CopyingRun (F G : Form) (s : List ℕ) (at n : ℕ) (d : List ℕ) (k : ℕ) (o : List ℕ) : Type 0 where
+  pub wrote : Wrote F G s at k k d n o
+  pub room : n + k ≤ length d
+  pub same : length o ≡ length d
+
+module _ {F G : Form} {s : List ℕ} {at n : ℕ} {d : List ℕ} where
+  pub copying-run-begin : at ≤ length s → n ≤ length d → CopyingRun F G s at n d 0 d
+  copying-run-begin h l = record { wrote = wrote-none h; room = omega arith; same = refl }
+
+  pub copying-run-more :
+      {k x : ℕ} {o p : List ℕ} → CopyingRun F G s at n d k o → n + k + x ≤ length o → Wrote F G s (at + k) x x o (n + k) p → CopyingRun F G s at n d (k + x) p
+  copying-run-more c h w =
+      record {
+        wrote = wrote-join (c .room) (c .wrote) w;
+        room = omega (arith, c .same);
+        same = wrote-length h w ∙ c .same;
+      }
+
+  pub copying-run-idle : {k x : ℕ} {o p : List ℕ} → CopyingRun F G s at n d k o → x ≡ 0 → Wrote F G s (at + k) x x o (n + k) p → CopyingRun F G s at n d k p
+  copying-run-idle {k} {x} {o} {p} c z w =
+      let e : p ≡ o = wrote-idle (rw z at w) in
+      record { wrote = rw e (c .wrote); room = c .room; same = ap length e ∙ c .same }
+
+  -- what is written behind no block
+  pub copying-run-then : {k l w : ℕ} {o p : List ℕ} → CopyingRun F G s at n d k o → k ≡ 0 → Wrote F G s at l w o n p → Wrote F G s at l w d n p
+  copying-run-then {k} {l} {w} {o} {p} c z x = let e : o ≡ d = wrote-idle (rw z at (c .wrote)) in rw e at x
 
 -- units that are characters by themselves, each of which becomes one unit
 pub counted-units : {F G : Form} {s : List ℕ} {at : ℕ} (k : ℕ) → at ≤ length s → ((j : ℕ) → j < k → Counted F G s (at + j) 1 1) → Counted F G s at k k

@@ -1,0 +1,92 @@
+// Written as UCS-4.
+use types::Run;
+ghost use mathlib.Core.Path.{_≡_};
+ghost use Prim.Native.Nat.{_+_, _≤_};
+ghost use lib.ListN.{length};
+ghost use Rattle.forms.specs.Forms.{fssUtf, ucs4};
+ghost use Rattle.laws.proofs.Runs.{Convertible, Wrote, CopyingRun};
+
+fn wide(byte: u8) -> u32
+    ensures { λ r. ⌜ r ≡ byte ⌝ }
+{
+    byte as u32
+}
+
+// A block of 16 bytes, if all of them are ASCII: read into an array and tested there, so that both loops are done at once.
+fn copy16(src: &[u8], at: usize, dst: &mut [u32], written: usize) -> usize
+    requires { ⌜ (at + 16 ≤ length (now src)) × (written + 16 ≤ length (now dst)) ⌝ }
+    ensures { λ r. ⌜ (r ≤ 16) × Wrote fssUtf ucs4 (now (src .entry)) at r r (now (dst .entry)) written (now (dst .exit)) ⌝ }
+{
+    let mut block = [0u32; 16];
+    let mut joined: u32 = 0;
+    let mut i: usize = 0;
+    while i < 16 {
+        let unit = wide(src[at + i]);
+        block[i] = unit;
+        joined = joined | unit;
+        i += 1;
+    }
+    if 128 <= joined {
+        return 0;
+    }
+    let mut k: usize = 0;
+    while k < 16 {
+        dst[written + k] = block[k];
+        k += 1;
+    }
+    16
+}
+
+// ASCII in whole blocks, as far as the room goes.
+fn ascii(src: &[u8], at: usize, dst: &mut [u32], written: usize) -> usize
+    requires { ⌜ (at ≤ length (now src)) × (written ≤ length (now dst)) ⌝ }
+    ensures { λ r. ⌜ CopyingRun fssUtf ucs4 (now (src .entry)) at written (now (dst .entry)) r (now (dst .exit)) ⌝ }
+{
+    let mut taken: usize = 0;
+    while 16 <= src.len() - (at + taken) {
+        if dst.len() - (written + taken) < 16 {
+            return taken;
+        }
+        let copied = copy16(src, at + taken, dst, written + taken);
+        if copied == 0 {
+            return taken;
+        }
+        taken += copied;
+    }
+    taken
+}
+
+// Characters one by one, up to one of more than four bytes.
+fn few(src: &[u8], at: usize, dst: &mut [u32], written: usize) -> Run
+    requires { ⌜ (at ≤ length (now src)) × Convertible fssUtf ucs4 (now src) at written (length (now dst)) ⌝ }
+    ensures { λ r. ⌜ Wrote fssUtf ucs4 (now (src .entry)) at (r .length) (r .units) (now (dst .entry)) written (now (dst .exit)) ⌝ }
+{
+    let room = crate::count::bounded(src.len() - at);
+    let mut length: usize = 0;
+    let mut units: usize = 0;
+    while length < room {
+        let short = crate::known::known_at(src, at + length);
+        let taken = short.length;
+        if taken == 0 {
+            return Run { length, units };
+        }
+        let end = encoder::ucs4::write(short.value, dst, written + units);
+        length += taken;
+        units = end - written;
+    }
+    Run { length, units }
+}
+
+pub fn write(src: &[u8], at: usize, dst: &mut [u32], written: usize) -> Run
+    requires { ⌜ (at ≤ length (now src)) × Convertible fssUtf ucs4 (now src) at written (length (now dst)) ⌝ }
+    ensures { λ r. ⌜ Wrote fssUtf ucs4 (now (src .entry)) at (r .length) (r .units) (now (dst .entry)) written (now (dst .exit)) ⌝ }
+{
+    let copied = ascii(src, at, dst, written);
+    if copied != 0 {
+        return Run {
+            length: copied,
+            units: copied,
+        };
+    }
+    few(src, at, dst, written)
+}
