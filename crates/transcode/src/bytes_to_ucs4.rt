@@ -3,9 +3,27 @@ use encoder::Target;
 use tables::ByteForm;
 use types::Conversion;
 use types::Item;
+use types::Run;
+ghost use Prim.Native.Nat.{_≤_};
+ghost use lib.ListN.{length};
+ghost use Rattle.laws.proofs.Runs.{Convertible, Wrote};
 ghost use Rattle.forms.specs.Forms.{ucs4};
 ghost use Rattle.forms.specs.Conversion.{Converts};
 ghost use Rattle.tables.specs.ByteForms.{byteForm};
+
+// The characters from an offset on that are written at once.
+fn write_run(from: ByteForm, src: &[u8], at: usize, dst: &mut [u32], written: usize) -> Run
+    requires { ⌜ (at ≤ length (now src)) × Convertible (byteForm from) ucs4 (now src) at written (length (now dst)) ⌝ }
+    ensures { λ r. ⌜ Wrote (byteForm from) ucs4 (now (src .entry)) at (r .length) (r .units) (now (dst .entry)) written (now (dst .exit)) ⌝ }
+{
+    match from {
+        ByteForm::FssUtf => fss_utf_runs::to_ucs4::write(src, at, dst, written),
+        ByteForm::UtfEbcdic => Run {
+            length: 0,
+            units: 0,
+        },
+    }
+}
 
 pub fn convert(from: ByteForm, src: &[u8], dst: &mut [u32]) -> Conversion
     ensures { λ r. ⌜ Converts (byteForm from) ucs4 (now (src .entry)) (now (dst .entry)) r (now (dst .exit)) ⌝ }
@@ -20,6 +38,13 @@ pub fn convert(from: ByteForm, src: &[u8], dst: &mut [u32]) -> Conversion
     let mut at: usize = 0;
     let mut written: usize = 0;
     while at < src.len() {
+        let run = write_run(from, src, at, dst, written);
+        let taken = run.length;
+        if taken != 0 {
+            at += taken;
+            written += run.units;
+            continue;
+        }
         let item = items::bytes::item_at(from, src, at);
         let Item::Character(value, span) = item else {
             return Conversion::Refused(answers::refusal(item));
