@@ -291,7 +291,13 @@ fn few(target: Target, src: &[u8], at: usize) -> Run
     let mut length: usize = 0;
     let mut units: usize = 0;
     while length < room {
-        let short = characters::fss_utf::short_at(src, at + length);
+        let from = at + length;
+        if src[from] < 0x80 {
+            length += 1;
+            units += 1;
+            continue;
+        }
+        let short = characters::fss_utf::short_at(src, from);
         let taken = short.length;
         if taken == 0 {
             return Run { length, units };
@@ -307,15 +313,17 @@ fn few(target: Target, src: &[u8], at: usize) -> Run
 }
 
 pub fn count(target: Target, src: &[u8], at: usize) -> Run
-    requires { ⌜ (at ≤ length (now src)) × (length (now src) ≤ 65536) ⌝ }
+    requires { ⌜ (at < length (now src)) × (length (now src) ≤ 65536) ⌝ }
     ensures { λ r. ⌜ Counted fssUtf (targetForm target) (now (src .entry)) at (r .length) (r .units) ⌝ }
 {
-    let ascii = ascii_length(src, at);
-    if ascii != 0 {
-        return Run {
-            length: ascii,
-            units: ascii,
-        };
+    if src[at] < 0x80 {
+        let ascii = ascii_length(src, at);
+        if ascii != 0 {
+            return Run {
+                length: ascii,
+                units: ascii,
+            };
+        }
     }
     let run = valid(target, src, at);
     let length = run.length;

@@ -1,7 +1,7 @@
 // Written as UTF-16.
 use types::Run;
 ghost use mathlib.Core.Path.{_≡_};
-ghost use Prim.Native.Nat.{_+_, _≤_};
+ghost use Prim.Native.Nat.{_+_, _%_, _<_, _≤_};
 ghost use lib.ListN.{length};
 ghost use Rattle.forms.specs.Forms.{fssUtf, utf16};
 ghost use Rattle.laws.proofs.Runs.{Convertible, Wrote, CopyingRun};
@@ -10,6 +10,13 @@ fn wide(byte: u8) -> u16
     ensures { λ r. ⌜ r ≡ byte ⌝ }
 {
     byte as u16
+}
+
+// The free bits of a trailing byte.
+fn free_bits(byte: u8) -> u16
+    ensures { λ r. ⌜ r ≡ byte % 64 ⌝ }
+{
+    wide(byte) % 64
 }
 
 // A block of 16 bytes, if all of them are ASCII: read into an array and tested there, so that both loops are done at once.
@@ -56,7 +63,8 @@ fn ascii(src: &[u8], at: usize, dst: &mut [u16], written: usize) -> usize
     taken
 }
 
-// Characters one by one, up to one of more than four bytes.
+// Characters one by one, up to one of more than four bytes. They are known to be characters, so nothing is tested but their lengths;
+// each length has its own way round the loop.
 fn few(src: &[u8], at: usize, dst: &mut [u16], written: usize) -> Run
     requires { ⌜ (at ≤ length (now src)) × Convertible fssUtf utf16 (now src) at written (length (now dst)) ⌝ }
     ensures { λ r. ⌜ Wrote fssUtf utf16 (now (src .entry)) at (r .length) (r .units) (now (dst .entry)) written (now (dst .exit)) ⌝ }
@@ -65,12 +73,35 @@ fn few(src: &[u8], at: usize, dst: &mut [u16], written: usize) -> Run
     let mut length: usize = 0;
     let mut units: usize = 0;
     while length < room {
-        let short = crate::known::known_at(src, at + length);
+        let from = at + length;
+        let to = written + units;
+        let lead = src[from];
+        if lead < 0x80 {
+            dst[to] = wide(lead);
+            length += 1;
+            units += 1;
+            continue;
+        }
+        let a = free_bits(src[from + 1]);
+        if lead < 0xE0 {
+            dst[to] = wide(lead - 0xC0) * 64 + a;
+            length += 2;
+            units += 1;
+            continue;
+        }
+        let b = free_bits(src[from + 2]);
+        if lead < 0xF0 {
+            dst[to] = (wide(lead - 0xE0) * 64 + a) * 64 + b;
+            length += 3;
+            units += 1;
+            continue;
+        }
+        let short = crate::known::known_at(src, from);
         let taken = short.length;
         if taken == 0 {
             return Run { length, units };
         }
-        let end = encoder::utf16::write(short.value, dst, written + units);
+        let end = encoder::utf16::write(short.value, dst, to);
         length += taken;
         units = end - written;
     }
@@ -78,9 +109,12 @@ fn few(src: &[u8], at: usize, dst: &mut [u16], written: usize) -> Run
 }
 
 pub fn write(src: &[u8], at: usize, dst: &mut [u16], written: usize) -> Run
-    requires { ⌜ (at ≤ length (now src)) × Convertible fssUtf utf16 (now src) at written (length (now dst)) ⌝ }
+    requires { ⌜ (at < length (now src)) × Convertible fssUtf utf16 (now src) at written (length (now dst)) ⌝ }
     ensures { λ r. ⌜ Wrote fssUtf utf16 (now (src .entry)) at (r .length) (r .units) (now (dst .entry)) written (now (dst .exit)) ⌝ }
 {
+    if 0x80 <= src[at] {
+        return few(src, at, dst, written);
+    }
     let copied = ascii(src, at, dst, written);
     if copied != 0 {
         return Run {

@@ -6,7 +6,7 @@ use native.Mathlib.Omega.{arith}
 use native.Mathlib.Numerals.{add-one}
 use native.Mathlib.Nat.{add-zero, add-assoc}
 use lib.ListN.{length, take, drop, set, getD, length-append, length-drop, take-append-drop}
-use lib.Seq.{length-take-le, take-at, drop-at, drop-drop, paste, paste-zero, paste-suc, length-paste}
+use lib.Seq.{set-split, length-take-le, take-at, drop-at, drop-drop, paste, paste-zero, paste-suc, length-paste}
 use Rattle.forms.specs.Buffer.{withUnits, Holds}
 
 -- a loop that copies the first n units of b: it begins, turns and ends
@@ -57,6 +57,9 @@ front-within {r} {t} {d} {o} h = omega (arith, h .counted, ap length (h .cells),
 -- units put in behind units
 pub with-none : (d : List ℕ) (n : ℕ) → d ≡ withUnits d n []
 with-none d n = rw (add-zero n) (sym (take-append-drop n d))
+
+pub with-one : (d : List ℕ) (n x : ℕ) → n < length d → set d n x ≡ withUnits d n (x ∷ [])
+with-one d n x h = rw (add-one n) (set-split d n x h)
 
 pub with-join : (d a b : List ℕ) (n : ℕ) → n + length a ≤ length d → withUnits (withUnits d n a) (n + length a) b ≡ withUnits d n (a ++ b)
 with-join d a b n h =

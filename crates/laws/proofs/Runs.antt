@@ -7,7 +7,7 @@ use native.Mathlib.Omega.{arith}
 use native.Mathlib.Nat.{add-zero, add-assoc}
 use native.Mathlib.Numerals.{add-one}
 use native.Mathlib.Decide.{decLt}
-use lib.ListN.{length, getD, take, drop, length-append}
+use lib.ListN.{length, getD, set, take, drop, length-append}
 use lib.Seq.{take-suc, length-take-le}
 use Rattle.types.specs.declared.Fault.{Fault}
 use Rattle.types.specs.declared.Span.{Span}
@@ -19,7 +19,7 @@ use Rattle.forms.specs.Conversion.{Outcome, converted, refused, encoding, refus
 use Rattle.laws.proofs.Items.{itemsOnward, sequenceAt, items-step, length-at}
 use Rattle.laws.proofs.Characters.{prepend-converted, put-some, put-converted}
 use Rattle.laws.proofs.Blocks.{Copied}
-use Rattle.laws.proofs.Buffers.{copy-end, with-none, with-join, length-with}
+use Rattle.laws.proofs.Buffers.{copy-end, with-none, with-one, with-join, length-with}
 use Rattle.laws.proofs.Progress.{CharacterAt, MarkAt, Progress, character-onward, prepend-none, prepend-twice}
 
 -- k units from `at` on are whole characters, and become the units `out`
@@ -236,6 +236,15 @@ module _ {F G : Form} {s : List ℕ} {at n : ℕ} {d : List ℕ} where
             room = omega (arith, l .0);
             same = length-with o (encode G v) p (n + u) x (h .1) ∙ w .same;
           }
+
+      -- a character of one unit
+      pub writing-run-unit : {x : ℕ} → encode G v ≡ x ∷ [] → (n + u < length o) × WritingRun F G s at n d (k + q .length) (u + 1) (set o (n + u) x)
+      writing-run-unit {x} e =
+          let l : length (encode G v) ≡ 1 = ap length e in
+          let r : n + u < length o = omega (arith, writing-run-held .1) in
+          let c : set o (n + u) x ≡ withUnits o (n + u) (encode G v) = with-one o (n + u) x r ∙ ap (withUnits o (n + u)) (sym e) in
+          let y : n + u + 1 - n ≡ u + 1 = omega arith in
+          (r, rw y at (writing-run-more {m = n + u + 1} (ap (λ (j : ℕ). n + u + j) (sym l)) c))
 
 -- the loop that writes block by block, a unit for each unit
 pub record CopyingRun (F G : Form) (s : List ℕ) (at n : ℕ) (d : List ℕ) (k : ℕ) (o : List ℕ) : Type 0 where

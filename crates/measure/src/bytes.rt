@@ -4,7 +4,7 @@ use tables::ByteForm;
 use types::Conversion;
 use types::Item;
 use types::Run;
-ghost use Prim.Native.Nat.{_≤_};
+ghost use Prim.Native.Nat.{_<_, _≤_};
 ghost use lib.ListN.{length};
 ghost use Rattle.laws.proofs.Runs.{Counted};
 ghost use Rattle.forms.specs.Conversion.{Measures};
@@ -13,7 +13,7 @@ ghost use Rattle.encoder.specs.Target.{targetForm};
 
 // The characters from an offset on that are counted at once.
 fn count_run(form: ByteForm, target: Target, src: &[u8], at: usize) -> Run
-    requires { ⌜ (at ≤ length (now src)) × (length (now src) ≤ 65536) ⌝ }
+    requires { ⌜ (at < length (now src)) × (length (now src) ≤ 65536) ⌝ }
     ensures { λ r. ⌜ Counted (byteForm form) (targetForm target) (now (src .entry)) at (r .length) (r .units) ⌝ }
 {
     match form {

@@ -4,7 +4,7 @@ use tables::ByteForm;
 use types::Conversion;
 use types::Item;
 use types::Run;
-ghost use Prim.Native.Nat.{_≤_};
+ghost use Prim.Native.Nat.{_<_};
 ghost use lib.ListN.{length};
 ghost use Rattle.laws.proofs.Runs.{Convertible, Wrote};
 ghost use Rattle.forms.specs.Forms.{ucs4};
@@ -13,7 +13,7 @@ ghost use Rattle.tables.specs.ByteForms.{byteForm};
 
 // The characters from an offset on that are written at once.
 fn write_run(from: ByteForm, src: &[u8], at: usize, dst: &mut [u32], written: usize) -> Run
-    requires { ⌜ (at ≤ length (now src)) × Convertible (byteForm from) ucs4 (now src) at written (length (now dst)) ⌝ }
+    requires { ⌜ (at < length (now src)) × Convertible (byteForm from) ucs4 (now src) at written (length (now dst)) ⌝ }
     ensures { λ r. ⌜ Wrote (byteForm from) ucs4 (now (src .entry)) at (r .length) (r .units) (now (dst .entry)) written (now (dst .exit)) ⌝ }
 {
     match from {

@@ -3,11 +3,14 @@ use borrow.Author.Needs.{needs}
 use Rattle.fss_utf_runs.proofs.count.count.Statement.{statement}
 use Rattle.fss_utf_runs.proofs.count.count.Tie as tie
 
+shared-slice-read-if1 : tie.Need-shared-slice-read-if1
+shared-slice-read-if1 c = search needs
+
 ascii-length-requires : tie.Need-ascii-length-requires
 ascii-length-requires c κs = search needs
 
 returns : tie.Need-returns
-returns c = ascii-counted (c .before .before .before .args .target) (c .before .ascii-length .ensures .0) (c .before .ascii-length .ensures .1)
+returns c = ascii-counted (c .before .before .before .before .before .args .target) (c .before .ascii-length .ensures .0) (c .before .ascii-length .ensures .1)
 
 valid-requires : tie.Need-valid-requires
 valid-requires c κs = search needs
@@ -24,4 +27,11 @@ returns-3 c = search needs
 pub count-spec : {M : Type 1} → statement M
 count-spec =
     tie.close
-    (tie.spec ascii-length-requires returns valid-requires returns-2 few-requires returns-3)
+    (tie.spec
+    shared-slice-read-if1
+    ascii-length-requires
+    returns
+    valid-requires
+    returns-2
+    few-requires
+    returns-3)

@@ -1,12 +1,15 @@
-use Prim.Native.Nat.{_≤_}
+use Prim.Native.Nat.{_≤_, _<_}
 use Rattle.laws.proofs.Runs.{copying-run-then}
 use borrow.Author.Needs.{needs}
 use native.Mathlib.Omega.{arith}
 use Rattle.fss_utf_runs.proofs.to_utf16.write.Statement.{statement}
 use Rattle.fss_utf_runs.proofs.to_utf16.write.Tie as tie
 
-ascii-requires : tie.Need-ascii-requires
-ascii-requires c κs = search needs
+shared-slice-read-if1 : tie.Need-shared-slice-read-if1
+shared-slice-read-if1 c = search needs
+
+few-requires : tie.Need-few-requires
+few-requires c κs = search needs
 
 same-length : tie.Need-same-length
 same-length c = search needs
@@ -14,15 +17,35 @@ same-length c = search needs
 returns : tie.Need-returns
 returns c = search needs
 
-few-requires : tie.Need-few-requires
-few-requires c κs = (c .before .before .before .before .before .before .before .before .pre .0, rw (c .before .before .before .before .ascii .ensures .same) (c .before .before .before .before .before .before .before .before .pre .1))
+ascii-requires : tie.Need-ascii-requires
+ascii-requires c κs = search needs
 
 same-length-2 : tie.Need-same-length-2
 same-length-2 c = search needs
 
 returns-2 : tie.Need-returns-2
-returns-2 c = copying-run-then (c .before .before .before .before .before .before .before .ascii .ensures) (omega (arith, c .before .before .before .before .if1 .left)) (c .before .before .few .ensures)
+returns-2 c = search needs
+
+few-requires-2 : tie.Need-few-requires-2
+few-requires-2 c κs = (omega (arith, c .before .before .before .before .before .before .before .before .before .before .pre .0), rw (c .before .before .before .before .ascii .ensures .same) (c .before .before .before .before .before .before .before .before .before .before .pre .1))
+
+same-length-3 : tie.Need-same-length-3
+same-length-3 c = search needs
+
+returns-3 : tie.Need-returns-3
+returns-3 c = copying-run-then (c .before .before .before .before .before .before .before .ascii .ensures) (omega (arith, c .before .before .before .before .if2 .left)) (c .before .before .few2 .ensures)
 
 pub write-spec : {M : Type 1} → statement M
 write-spec =
-    tie.close (tie.spec ascii-requires same-length returns few-requires same-length-2 returns-2)
+    tie.close
+    (tie.spec
+    shared-slice-read-if1
+    few-requires
+    same-length
+    returns
+    ascii-requires
+    same-length-2
+    returns-2
+    few-requires-2
+    same-length-3
+    returns-3)

@@ -1,3 +1,4 @@
+use native.Mathlib.Omega.{arith}
 use Rattle.laws.proofs.Runs.{counted-none}
 use borrow.Author.Needs.{needs}
 use Rattle.measure.proofs.bytes.count_run.Statement.{statement}
@@ -16,7 +17,7 @@ returns : tie.Need-returns
 returns c = rw (c .before .enum-told .given .1) (c .count .ensures)
 
 returns-2 : tie.Need-returns-2
-returns-2 c = counted-none (c .before .before .before .pre .0)
+returns-2 c = counted-none (omega (arith, c .before .before .before .pre .0))
 
 pub count-run-spec : {M : Type 1} → statement M
 count-run-spec = tie.close (tie.spec enum-told count-requires enum-told-2 returns returns-2)

@@ -63,7 +63,7 @@ loop-holds : tie.Need-loop-holds Inv-loop μ-loop
 loop-holds c = measuring-begin (c .if1 .left)
 
 count-run-requires : tie.Need-count-run-requires Inv-loop μ-loop
-count-run-requires c κs = (omega (arith, c .loop-test .taken), c .before .loop .inv .short)
+count-run-requires c κs = (c .loop-test .taken, c .before .loop .inv .short)
 
 add-at : tie.Need-add-at Inv-loop μ-loop
 add-at c = omega (arith, run c .progress .within, run c .short)

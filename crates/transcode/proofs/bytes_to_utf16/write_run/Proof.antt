@@ -1,3 +1,4 @@
+use native.Mathlib.Omega.{arith}
 use Rattle.laws.proofs.Runs.{wrote-none}
 use Prim.Native.Nat.{_≤_}
 use borrow.Author.Needs.{needs}
@@ -20,7 +21,7 @@ returns : tie.Need-returns
 returns c = rw (c .before .before .before .before .enum-told .given .1) (c .before .before .write .ensures)
 
 returns-2 : tie.Need-returns-2
-returns-2 c = wrote-none (c .before .before .before .before .pre .0)
+returns-2 c = wrote-none (omega (arith, c .before .before .before .before .pre .0))
 
 pub write-run-spec : {M : Type 1} → statement M
 write-run-spec =
