@@ -1,0 +1,9 @@
+// Checked readers of the common characters, for the loops that take many of them. They give no faults: where they find no such
+// character, the reader of items looks. `specs/Short` says what they promise.
+pub mod fss_utf;
+
+// A character's value and its number of code units; a length of 0 where there may be none.
+pub struct Short {
+    pub value: u32,
+    pub length: usize,
+}
