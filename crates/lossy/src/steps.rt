@@ -23,18 +23,6 @@ pub fn stop_at(at: usize, reach: usize, length: usize) -> usize
     }
 }
 
-// A block put into a buffer.
-pub fn put_block(block: &[u32; 16], cells: &mut [u32], from: usize)
-    requires { ⌜ (length (now block) ≡ 16) × (from + 16 ≤ length (now cells)) ⌝ }
-    ensures { λ r. ⌜ now (cells .exit) ≡ withUnits (now (cells .entry)) from (now (block .entry)) ⌝ }
-{
-    let mut j: usize = 0;
-    while j < 16 {
-        cells[from + j] = block[j];
-        j += 1;
-    }
-}
-
 // The offsets of a block put into a buffer.
 pub fn put_offsets(at: usize, cells: &mut [u32], from: usize)
     requires { ⌜ (at + 16 ≤ 65536) × (from + 16 ≤ length (now cells)) ⌝ }

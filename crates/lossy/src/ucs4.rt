@@ -62,7 +62,11 @@ fn block_at(text: &[u32], at: usize, values: &mut [u32], starts: &mut [u32], ite
     if 0x80000000 <= all {
         return Read { at, items };
     }
-    crate::steps::put_block(&block, values, items);
+    let mut k: usize = 0;
+    while k < 16 {
+        values[items + k] = block[k];
+        k += 1;
+    }
     crate::steps::put_offsets(at, starts, items);
     Read {
         at: at + 16,
