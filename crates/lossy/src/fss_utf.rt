@@ -19,6 +19,9 @@ fn block_at(text: &[u8], at: usize, values: &mut [u32], starts: &mut [u32], item
     if text.len() - at < 16 {
         return Read { at, items };
     }
+    if 0x80 <= text[at] {
+        return Read { at, items };
+    }
     let mut block = [0u32; 16];
     let mut all: u32 = 0;
     let mut j: usize = 0;

@@ -24,13 +24,13 @@ abbrev μ-loop2 : tie.MeasureT-loop2
 
 -- behind the test of the block
 abbrev Tested : Type 0
-Tested = tie.Else2 Inv-loop μ-loop Inv-loop2 μ-loop2
+Tested = tie.Else3 Inv-loop μ-loop Inv-loop2 μ-loop2
 
 abbrev begun : Tested → tie.Start Inv-loop μ-loop Inv-loop2 μ-loop2
-begun c = c .before .before .before .before .before .before .before
+begun c = c .before .before .before .before .before .before .before .before .before
 
 whole : (c : Tested) → Singles fssUtf (now (begun c .args .text)) (begun c .args .at) 16 (c .before .before .loop .block)
-whole c = loading-all (c .before .before .loop .inv) (c .before .loop-test .left) (c .if2 .left)
+whole c = loading-all (c .before .before .loop .inv) (c .before .loop-test .left) (c .if3 .left)
 
 sub-if1 : tie.Need-sub-if1 Inv-loop μ-loop Inv-loop2 μ-loop2
 sub-if1 c = c .before .before .before .pre .within
@@ -38,8 +38,14 @@ sub-if1 c = c .before .before .before .pre .within
 returns : tie.Need-returns Inv-loop μ-loop Inv-loop2 μ-loop2
 returns c = read-none (c .before .before .before .before .pre .within)
 
+shared-slice-read-if2 : tie.Need-shared-slice-read-if2 Inv-loop μ-loop Inv-loop2 μ-loop2
+shared-slice-read-if2 c = search needs
+
+returns-2 : tie.Need-returns-2 Inv-loop μ-loop Inv-loop2 μ-loop2
+returns-2 c = read-none (c .before .before .before .before .before .before .pre .within)
+
 loop-holds : tie.Need-loop-holds Inv-loop μ-loop Inv-loop2 μ-loop2
-loop-holds c = loading-none (c .before .before .before .before .pre .within) refl
+loop-holds c = loading-none (c .before .before .before .before .before .before .pre .within) refl
 
 add-wide : tie.Need-add-wide Inv-loop μ-loop Inv-loop2 μ-loop2
 add-wide c = search needs
@@ -65,13 +71,12 @@ loop-less c = search needs
 loop-again : tie.Need-loop-again Inv-loop μ-loop Inv-loop2 μ-loop2
 loop-again c =
     let l = c .before .before .before .loop in
-    let h = c .before .before .before .before .if1 .left in
     let x = c .wide .result in
     loading-more (l .inv) (c .before .before .loop-test .taken) (λ q. omega (arith, q, or-left (l .all) x))
     (λ q. one-byte (omega arith) (omega (arith, q, or-right (l .all) x, c .wide .ensures)) (c .wide .ensures) .character (λ z. omega arith))
 
-returns-2 : tie.Need-returns-2 Inv-loop μ-loop Inv-loop2 μ-loop2
-returns-2 c = read-none (c .before .before .before .before .before .before .before .pre .within)
+returns-3 : tie.Need-returns-3 Inv-loop μ-loop Inv-loop2 μ-loop2
+returns-3 c = read-none (c .before .before .before .before .before .before .before .before .before .pre .within)
 
 loop2-holds : tie.Need-loop2-holds Inv-loop μ-loop Inv-loop2 μ-loop2
 loop2-holds c = copied-none
@@ -119,8 +124,8 @@ same-length c = c .before .before .before .before .before .loop2 .inv .long
 same-length-2 : tie.Need-same-length-2 Inv-loop μ-loop Inv-loop2 μ-loop2
 same-length-2 c = c .before .before .put-offsets .kept .1 .0
 
-returns-3 : tie.Need-returns-3 Inv-loop μ-loop Inv-loop2 μ-loop2
-returns-3 c =
+returns-4 : tie.Need-returns-4 Inv-loop μ-loop Inv-loop2 μ-loop2
+returns-4 c =
     let t = c .before .before .before .before .before .before in
     let l = t .before .before .loop .inv .long in
     read-block (begun t .pre) (whole t) l (copied-all (c .before .before .before .before .before .loop2 .inv) l (c .before .before .before .before .loop2-test .left)) (c .before .before .put-offsets .ensures)
@@ -135,6 +140,8 @@ block-at-spec =
     μ-loop2
     sub-if1
     returns
+    shared-slice-read-if2
+    returns-2
     loop-holds
     add-wide
     shared-slice-read-wide
@@ -144,7 +151,7 @@ block-at-spec =
     add-j
     loop-less
     loop-again
-    returns-2
+    returns-3
     loop2-holds
     mul-values
     array-read-values
@@ -159,4 +166,4 @@ block-at-spec =
     add-t12
     same-length
     same-length-2
-    returns-3)
+    returns-4)
