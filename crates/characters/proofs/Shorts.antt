@@ -1,4 +1,4 @@
--- Characters of one to four bytes of FSS-UTF, by the free bits of their bytes.
+-- Characters of one to four bytes of FSS-UTF, by the free bits of their bytes, and of one and two units of UTF-16.
 use Prim.Native.Nat.{ℕ, _+_, _*_, _-_, _≤_, _<_}
 use mathlib.Core.Path.{_≡_, refl}
 use mathlib.Core.List.{List, [], _∷_}
@@ -6,9 +6,10 @@ use native.Mathlib.Omega.{arith}
 use lib.ListN.{length, getD, drop}
 use lib.Bits.{bitOr, or-add-and, and-le-l, and-le-r}
 use Rattle.forms.specs.Form.{Form, span}
-use Rattle.forms.specs.Forms.{byteLayout, fssUtf}
+use Rattle.forms.specs.Forms.{byteLayout, fssUtf, utf16}
 use Rattle.laws.proofs.Progress.{CharacterAt}
 use Rattle.laws.proofs.ReadUnits.{behind-one, behind-two, behind-three, read-units}
+use Rattle.items.proofs.WholeUnits.{utf16-below, utf16-above, utf16-pair}
 use Rattle.tables.specs.declared.ByteForm.the-variants.{FssUtf}
 use Rattle.tables.proofs.ByteLayouts.{passes, not-excluded}
 use Rattle.characters.specs.Short.{ShortAt, LeadAt, FreeBits}
@@ -72,3 +73,15 @@ module _ {s : List ℕ} {at : ℕ} where
             (omega arith) (behind-three s at (h .inside)) ((omega arith, omega arith), ((omega arith, omega arith), ((omega arith, omega arith), tt))) (omega arith) (h .from) (h .to)
             (omega arith) m;
       }
+
+  pub unit-below : {v : ℕ} → at < length s → v ≡ getD s at 0 → v < 0xD800 → ShortAt utf16 s at v 1
+  unit-below {v} h e l = record { character = λ _. record { inside = h; is = rw e (utf16-below s at (omega arith)) } }
+
+  pub unit-above : {v : ℕ} → at < length s → v ≡ getD s at 0 → 0xE000 ≤ v → v < 0x10000 → ShortAt utf16 s at v 1
+  unit-above {v} h e l m = record { character = λ _. record { inside = h; is = rw e (utf16-above s at (omega arith) (omega arith)) } }
+
+  pub pair :
+      {x y : ℕ} → at + 1 < length s → x ≡ getD s at 0 → y ≡ getD s (at + 1) 0 → 0xD800 ≤ x → x < 0xDC00 → 0xDC00 ≤ y → y < 0xE000
+      → ShortAt utf16 s at (0x10000 + (x - 0xD800) * 0x400 + (y - 0xDC00)) 2
+  pair {x} {y} h e f k l m n =
+      record { character = λ _. record { inside = omega arith; is = utf16-pair s at (omega arith) (omega arith) h x y e f m n } }

@@ -1,6 +1,7 @@
 // Checked readers of the common characters, for the loops that take many of them. They give no faults: where they find no such
 // character, the reader of items looks. `specs/Short` says what they promise.
 pub mod fss_utf;
+pub mod utf16;
 
 // A character's value and its number of code units; a length of 0 where there may be none.
 pub struct Short {

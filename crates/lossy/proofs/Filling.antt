@@ -1,12 +1,14 @@
 -- The loops of a lossy decoding: the count of items, and the two buffers filled item by item.
 use Prim.Native.Nat.{ℕ, _+_, _≤_, _<_}
 use mathlib.Core.Path.{_≡_, refl, sym, ap, _∙_}
-use mathlib.Core.List.{List, [], _∷_, _++_, map, map-append}
+use mathlib.Core.Bool.{Bool, true, false, _&&_}
+use mathlib.Core.List.{List, [], _∷_, _++_, map, map-append, append-assoc}
 use native.Mathlib.Omega.{arith}
-use native.Mathlib.Nat.{add-zero, add-assoc}
-use native.Mathlib.Numerals.{add-one}
-use lib.ListN.{length, getD, drop, set, length-append, length-map, length-set}
-use lib.Seq.{drop-cons, set-at, append-snoc, length-front}
+use native.Mathlib.Nat.{add-zero}
+use borrow.Author.Tests.{leb-true, leb-false, le-leb}
+use lib.Dec.{leb}
+use lib.ListN.{length, drop, take, set, length-append, length-map, length-set}
+use lib.Seq.{take-at, drop-at, drop-drop}
 use Rattle.types.specs.declared.Fault.the-variants.{SourceTooLong, BufferTooShort}
 use Rattle.types.specs.declared.Span.{Span}
 use Rattle.types.specs.declared.Item.{Item}
@@ -15,12 +17,19 @@ use Rattle.types.specs.declared.Refusal.{Refusal}
 use Rattle.types.specs.declared.Counts.{Counts}
 use Rattle.types.specs.declared.Decoding.the-variants.{Decoded, Refused}
 use Rattle.forms.specs.Fault.{limit, refusal}
+use Rattle.forms.specs.Buffer.{withUnits}
 use Rattle.forms.specs.Form.{Form, spanOf, items}
 use Rattle.forms.specs.Lossy.{valueOf, offsetOf, markCount, marks, Outcome, decoded, refused, lossy, counts, answerOf, valuesIn, startsIn}
 use Rattle.lossy.specs.Demand3.{DecodesLossy}
 use Rattle.laws.proofs.FormLaws.{Laws}
+use Rattle.laws.proofs.Buffers.{holds-more}
+use Rattle.laws.proofs.Items.{itemsOnward}
 use Rattle.laws.proofs.ReadItems.{ItemAt, ReadTo, read-begin, read-more, read-next, read-end, item-offset}
+use Rattle.laws.proofs.Table.{and-left, and-right}
+use Rattle.lossy.specs.ReadOn.{Room, ReadOn}
 use Rattle.lossy.proofs.ThreeParts.{marks-append}
+use Rattle.lossy.proofs.ExactLossy.{items-most}
+use Rattle.lossy.proofs.ReadingOn.{mark-most, fill, read-nothing}
 use Rattle.lossy.proofs.LossyCalls.{lossy-over, lossy-short-values, lossy-short-starts, lossy-all, promise}
 
 -- so many items before `at`
@@ -41,17 +50,6 @@ module _ {F : Form} {s : List ℕ} where
     pub counting-end : Counting F s p n → length s ≤ p → n ≡ length (items F s)
     counting-end c h = c .counted ∙ sym (ap length (read-end (c .read) h))
 
-pub mark-most : (i : Item) → markCount i ≤ 1
-mark-most (Character v p) = omega arith
-mark-most (Mark f p) = omega arith
-
--- one cell more at the front
-fill : (xs d : List ℕ) (n a : ℕ) → length xs ≡ n → n < length d → set (xs ++ drop n d) n a ≡ (xs ++ (a ∷ [])) ++ drop (n + 1) d
-fill xs d n a e h =
-    ap (λ (x : List ℕ). set (xs ++ x) n a) (drop-cons d n 0 h ∙ ap {B = List ℕ} (λ (k : ℕ). getD d n 0 ∷ drop k d) (sym (add-one n)))
-    ∙ set-at xs (getD d n 0) (drop (n + 1) d) a n e
-    ∙ sym (append-snoc xs a (drop (n + 1) d))
-
 -- the items before `at` stand in both buffers, and there is room for all
 pub record Filling (F : Form) (s d e : List ℕ) (at n m : ℕ) (o p : List ℕ) : Type 0 where
   pub done : List Item
@@ -67,6 +65,15 @@ pub record Filling (F : Form) (s d e : List ℕ) (at n m : ℕ) (o p : List ℕ)
   pub room-values : length (items F s) ≤ length d
   pub room-starts : length (items F s) ≤ length e
 
+-- units put in behind those at the front
+holding :
+    (d xs ys o v : List ℕ) (n b : ℕ) → o ≡ xs ++ drop n d → length xs ≡ n → v ≡ withUnits o n ys → b ≡ n + length ys → v ≡ (xs ++ ys) ++ drop b d
+holding d xs ys o v n b e h g k = let m = holds-more d xs ys o v n b (record { counted = sym h; cells = e }) k g in m .cells
+
+-- whether there is room for all
+pub room-known : (F : Form) (s : List ℕ) (m n : ℕ) → length s ≤ m → length s ≤ n → true ≡ (leb (length (items F s)) m && leb (length (items F s)) n)
+room-known F s m n h k = rw (le-leb (length (items F s)) m (omega (arith, items-most F s)), le-leb (length (items F s)) n (omega (arith, items-most F s)))
+
 module _ {F : Form} {s d e : List ℕ} where
   module _ {r : Refusal} (laws : Laws F) where
     refusing : (q : Refusal) → lossy F s (length d) (length e) ≡ refused q → r ≡ q → DecodesLossy F s d e (Refused r) d e
@@ -76,14 +83,24 @@ module _ {F : Form} {s d e : List ℕ} where
     pub filling-over : r ≡ refusal SourceTooLong 0 → limit < length s → DecodesLossy F s d e (Refused r) d e
     filling-over z h = refusing (refusal SourceTooLong 0) (lossy-over F s (length d) (length e) h) z
 
-    pub filling-short-values : {n : ℕ} → r ≡ refusal BufferTooShort 0 → length s ≤ limit → n ≡ length (items F s) → length d < n → DecodesLossy F s d e (Refused r) d e
-    filling-short-values z h c l = refusing (refusal BufferTooShort 0) (lossy-short-values F s (length d) (length e) h (omega arith)) z
+    pub filling-short :
+        {b : Bool} → r ≡ refusal BufferTooShort 0 → length s ≤ limit → b ≡ (leb (length (items F s)) (length d) && leb (length (items F s)) (length e)) → b ≡ false
+        → DecodesLossy F s d e (Refused r) d e
+    filling-short z h c l = go (leb (length (items F s)) (length d)) refl (leb (length (items F s)) (length e)) refl (sym c ∙ l)
+      where
+        go :
+            (x : Bool) → leb (length (items F s)) (length d) ≡ x → (y : Bool) → leb (length (items F s)) (length e) ≡ y → (x && y) ≡ false
+            → DecodesLossy F s d e (Refused r) d e
+        go false f y g n = refusing (refusal BufferTooShort 0) (lossy-short-values F s (length d) (length e) h (leb-false _ _ f)) z
+        go true f false g n = refusing (refusal BufferTooShort 0) (lossy-short-starts F s (length d) (length e) h (leb-false _ _ g)) z
+        go true f true g n = absurd (let t : _≡_ {A = ℕ} 0 1 = cc in omega arith)
 
-    pub filling-short-starts : {n : ℕ} → r ≡ refusal BufferTooShort 0 → length s ≤ limit → n ≡ length (items F s) → length e < n → DecodesLossy F s d e (Refused r) d e
-    filling-short-starts z h c l = refusing (refusal BufferTooShort 0) (lossy-short-starts F s (length d) (length e) h (omega arith)) z
-
-  pub filling-begin : {n : ℕ} → length s ≤ limit → n ≡ length (items F s) → n ≤ length d → n ≤ length e → Filling F s d e 0 0 0 d e
-  filling-begin h c k l =
+  pub filling-begin :
+      {b : Bool} → length s ≤ limit → b ≡ (leb (length (items F s)) (length d) && leb (length (items F s)) (length e)) → b ≡ true → Filling F s d e 0 0 0 d e
+  filling-begin h c l =
+      let t = sym c ∙ l in
+      let k = leb-true _ _ (and-left (leb (length (items F s)) (length d)) (leb (length (items F s)) (length e)) t) in
+      let m = leb-true _ _ (and-right (leb (length (items F s)) (length d)) (leb (length (items F s)) (length e)) t) in
       record {
         done = [];
         read = read-begin F s;
@@ -95,8 +112,8 @@ module _ {F : Form} {s d e : List ℕ} where
         same-values = refl;
         same-starts = refl;
         short = h;
-        room-values = omega arith;
-        room-starts = omega arith;
+        room-values = k;
+        room-starts = m;
       }
 
   module _ {at n m : ℕ} {o p : List ℕ} where
@@ -140,3 +157,42 @@ module _ {F : Form} {s d e : List ℕ} where
             room-values = f .room-values;
             room-starts = f .room-starts;
           }
+
+    -- the next items have room
+    pub filling-room : Filling F s d e at n m o p → Room F s at n (length o) (length p)
+    filling-room f =
+        let l = ap length (f .read .whole) ∙ length-append (f .done) (itemsOnward F s at) in
+        record {
+          short = f .short;
+          within = f .read .within;
+          values = omega (arith, l, f .counted, f .room-values, f .same-values);
+          starts = omega (arith, l, f .counted, f .room-starts, f .same-starts);
+        }
+
+    -- many items in one step
+    pub filling-run : {to b : ℕ} {v w : List ℕ} → Filling F s d e at n m o p → ReadOn F s at to o p n b v w → Filling F s d e to b m v w
+    filling-run {to} {b} {v} {w} f x =
+        record {
+          done = f .done ++ x .done;
+          read =
+              record {
+                within = x .read .inside;
+                whole = f .read .whole ∙ ap (λ (z : List Item). f .done ++ z) (x .read .onward) ∙ sym (append-assoc (f .done) (x .done) (itemsOnward F s to));
+                few = omega (arith, f .read .few, x .read .few, length-append (f .done) (x .done));
+              };
+          counted = omega (arith, f .counted, x .counted, length-append (f .done) (x .done));
+          marked = omega (arith, f .marked, x .unmarked, marks-append (f .done) (x .done));
+          fewer = omega (arith, f .fewer, x .counted);
+          values = holding d (map valueOf (f .done)) (map valueOf (x .done)) o v n b (f .values) (omega (arith, f .counted, length-map (f .done) valueOf)) (x .values) (omega (arith, x .counted, length-map (x .done) valueOf))
+              ∙ ap (λ (z : List ℕ). z ++ drop b d) (sym (map-append valueOf (f .done) (x .done)));
+          starts = holding e (map offsetOf (f .done)) (map offsetOf (x .done)) p w n b (f .starts) (omega (arith, f .counted, length-map (f .done) offsetOf)) (x .starts) (omega (arith, x .counted, length-map (x .done) offsetOf))
+              ∙ ap (λ (z : List ℕ). z ++ drop b e) (sym (map-append offsetOf (f .done) (x .done)));
+          same-values = x .same-values ∙ f .same-values;
+          same-starts = x .same-starts ∙ f .same-starts;
+          short = f .short;
+          room-values = f .room-values;
+          room-starts = f .room-starts;
+        }
+
+    pub filling-none : {to b : ℕ} {v w : List ℕ} → Filling F s d e at n m o p → ReadOn F s at to o p n b v w → to ≡ at → Filling F s d e at n m v w
+    filling-none {to} {b} {v} {w} f x z = let q = read-nothing x z in rw (q .0, q .1) f
