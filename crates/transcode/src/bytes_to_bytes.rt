@@ -6,11 +6,24 @@ use types::Run;
 ghost use Prim.Native.Nat.{_≤_};
 ghost use lib.ListN.{length};
 ghost use Rattle.laws.proofs.Runs.{Convertible, Wrote};
-ghost use Rattle.forms.specs.Forms.{utfEbcdic};
+ghost use Rattle.forms.specs.Forms.{fssUtf, utfEbcdic};
 ghost use Rattle.forms.specs.Conversion.{Converts};
 ghost use Rattle.tables.specs.ByteForms.{byteForm};
 
 // The characters from an offset on that are written at once.
+fn write_fss_utf_run(to: ByteForm, src: &[u8], at: usize, dst: &mut [u8], written: usize) -> Run
+    requires { ⌜ (at ≤ length (now src)) × Convertible fssUtf (byteForm to) (now src) at written (length (now dst)) ⌝ }
+    ensures { λ r. ⌜ Wrote fssUtf (byteForm to) (now (src .entry)) at (r .length) (r .units) (now (dst .entry)) written (now (dst .exit)) ⌝ }
+{
+    match to {
+        ByteForm::FssUtf => Run {
+            length: 0,
+            units: 0,
+        },
+        ByteForm::UtfEbcdic => utf_ebcdic_target_runs::from_fss_utf::write(src, at, dst, written),
+    }
+}
+
 fn write_utf_ebcdic_run(to: ByteForm, src: &[u8], at: usize, dst: &mut [u8], written: usize) -> Run
     requires { ⌜ (at ≤ length (now src)) × Convertible utfEbcdic (byteForm to) (now src) at written (length (now dst)) ⌝ }
     ensures { λ r. ⌜ Wrote utfEbcdic (byteForm to) (now (src .entry)) at (r .length) (r .units) (now (dst .entry)) written (now (dst .exit)) ⌝ }
@@ -36,10 +49,7 @@ fn write_run(
     ensures { λ r. ⌜ Wrote (byteForm from) (byteForm to) (now (src .entry)) at (r .length) (r .units) (now (dst .entry)) written (now (dst .exit)) ⌝ }
 {
     match from {
-        ByteForm::FssUtf => Run {
-            length: 0,
-            units: 0,
-        },
+        ByteForm::FssUtf => write_fss_utf_run(to, src, at, dst, written),
         ByteForm::UtfEbcdic => write_utf_ebcdic_run(to, src, at, dst, written),
     }
 }
