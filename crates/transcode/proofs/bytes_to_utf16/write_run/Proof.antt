@@ -1,3 +1,4 @@
+use native.Mathlib.Omega.{arith}
 use Prim.Native.Nat.{_≤_}
 use borrow.Author.Needs.{needs}
 use Rattle.transcode.proofs.bytes_to_utf16.write_run.Statement.{statement}
@@ -13,7 +14,9 @@ enum-told-2 : tie.Need-enum-told-2
 enum-told-2 c = search needs
 
 write-requires-2 : tie.Need-write-requires-2
-write-requires-2 c κs = rw (c .before .enum-told2 .given .1) at (c .before .before .before .before .before .pre)
+write-requires-2 c κs =
+    let p = rw (c .before .enum-told2 .given .1) at (c .before .before .before .before .before .pre) in
+    (omega (arith, p .0), p .1)
 
 same-length : tie.Need-same-length
 same-length c = search needs
