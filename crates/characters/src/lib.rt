@@ -2,6 +2,7 @@
 // character, the reader of items looks. `specs/Short` says what they promise.
 pub mod fss_utf;
 pub mod utf16;
+pub mod utf_ebcdic;
 
 // A character's value and its number of code units; a length of 0 where there may be none.
 pub struct Short {

@@ -1,11 +1,18 @@
--- What holds of every target: its laws, and that it writes at most seven units for a value.
-use Prim.Native.Nat.{ℕ, _≤_, _<_}
+-- What holds of every target: its laws, that it writes at most seven units for a value and one for ASCII, and its units counted.
+use Prim.Native.Nat.{ℕ, _+_, _≤_, _<_}
+use mathlib.Core.Path.{_≡_, sym, ap}
+use mathlib.Core.List.{List}
 use native.Mathlib.Omega.{arith}
 use lib.ListN.{length}
-use Rattle.forms.specs.Form.{encode}
+use Rattle.forms.specs.Form.{Form, span, encode}
 use Rattle.laws.proofs.FormLaws.{Laws}
 use Rattle.laws.proofs.Characters.{encode-longest}
 use Rattle.laws.proofs.FourForms.{fssUtf-laws, utfEbcdic-laws, utf16-laws, ucs4-laws}
+use Rattle.laws.proofs.Progress.{CharacterAt}
+use Rattle.laws.proofs.Runs.{Counted, counted-one, counted-join}
+use Rattle.tables.specs.declared.ByteForm.the-variants as form
+use Rattle.tables.proofs.ByteLayouts.{encode-length}
+use Rattle.encoder.proofs.WholeUnits.{ucs4-encoding, below-surrogates}
 use Rattle.encoder.specs.Target.{targetForm}
 use Rattle.encoder.specs.declared.Target.{Target}
 use Rattle.encoder.specs.declared.Target.the-variants.{FssUtf, UtfEbcdic, Utf16, Ucs4}
@@ -24,3 +31,20 @@ longest-seven Ucs4 = omega arith
 
 pub encode-seven : (t : Target) (v : ℕ) → length (encode (targetForm t) v) ≤ 7
 encode-seven t v = omega (arith, encode-longest (targetForm t) (target-laws t) v, longest-seven t)
+
+-- an ASCII character has one unit in every form
+pub ascii-one : (t : Target) (v : ℕ) → v < 0x80 → 1 ≡ length (encode (targetForm t) v)
+ascii-one FssUtf v h = sym (encode-length form.FssUtf v (omega arith) 0 (omega arith) (omega arith) (omega arith))
+ascii-one UtfEbcdic v h = sym (encode-length form.UtfEbcdic v (omega arith) 0 (omega arith) (omega arith) (omega arith))
+ascii-one Utf16 v h = sym (ap length (below-surrogates v (omega arith)))
+ascii-one Ucs4 v h = sym (ap length (ucs4-encoding v (omega arith)))
+
+module _ (t : Target) {F : Form} {s : List ℕ} where
+  pub counted-ascii : {p v : ℕ} → CharacterAt F s p v (span p 1) → v < 0x80 → Counted F (targetForm t) s p 1 1
+  counted-ascii {p} {v} c h = counted-one c (ascii-one t v h) (λ z. omega (arith, z)) (encode-seven t v)
+
+  -- one character more
+  pub counted-more :
+      {at k u v n w : ℕ} → Counted F (targetForm t) s at k u → CharacterAt F s (at + k) v (span (at + k) n) → w ≡ length (encode (targetForm t) v) → (w ≡ 0 → ⊥)
+      → Counted F (targetForm t) s at (k + n) (u + w)
+  counted-more {at} {k} {u} {v} c a e z = counted-join c (counted-one a e z (encode-seven t v))

@@ -3,6 +3,7 @@
 pub mod bytes;
 pub mod ucs4;
 pub mod utf16;
+pub mod utf_ebcdic;
 
 use tables::ByteForm;
 ghost use mathlib.Core.Path.{_≡_};

@@ -18,10 +18,7 @@ fn count_run(form: ByteForm, target: Target, src: &[u8], at: usize) -> Run
 {
     match form {
         ByteForm::FssUtf => fss_utf_runs::count::count(target, src, at),
-        ByteForm::UtfEbcdic => Run {
-            length: 0,
-            units: 0,
-        },
+        ByteForm::UtfEbcdic => utf_ebcdic_runs::count::count(target, src, at),
     }
 }
 

@@ -1,1 +1,2 @@
 pub mod ByteForms
+pub mod Tables

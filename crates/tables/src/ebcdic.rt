@@ -2,6 +2,7 @@
 ghost use mathlib.Core.Path.{_≡_};
 ghost use Rattle.forms.specs.Exchange.{i8Of, ebcdicOf};
 ghost use Rattle.forms.specs.Flags.{flagOf};
+ghost use Rattle.tables.specs.Tables.{Tabulates};
 
 // The I8 byte of each UTF-EBCDIC byte, rows by high nibble.
 const EXCHANGE: [u8; 256] = [
@@ -805,4 +806,32 @@ pub fn flag(byte: u8) -> u8
 {
     let i = byte as usize;
     FLAGS[i]
+}
+
+// The three tables whole: a loop takes one before it starts, and looks up in that copy.
+pub fn exchange_table() -> [u8; 256]
+    ensures { λ r. ⌜ Tabulates i8Of r ⌝ }
+{
+    EXCHANGE
+}
+
+pub fn inverse_table() -> [u8; 256]
+    ensures { λ r. ⌜ Tabulates ebcdicOf r ⌝ }
+{
+    INVERSE
+}
+
+// What a table has for a byte.
+pub fn exchanged(table: &[u8; 256], byte: u8) -> u8
+    requires { ⌜ Tabulates i8Of (now table) ⌝ }
+    ensures { λ r. ⌜ r ≡ i8Of byte ⌝ }
+{
+    table[byte as usize]
+}
+
+pub fn restored(table: &[u8; 256], byte: u8) -> u8
+    requires { ⌜ Tabulates ebcdicOf (now table) ⌝ }
+    ensures { λ r. ⌜ r ≡ ebcdicOf byte ⌝ }
+{
+    table[byte as usize]
 }

@@ -18,10 +18,7 @@ fn write_run(from: ByteForm, src: &[u8], at: usize, dst: &mut [u16], written: us
 {
     match from {
         ByteForm::FssUtf => fss_utf_runs::to_utf16::write(src, at, dst, written),
-        ByteForm::UtfEbcdic => Run {
-            length: 0,
-            units: 0,
-        },
+        ByteForm::UtfEbcdic => utf_ebcdic_runs::to_utf16::write(src, at, dst, written),
     }
 }
 

@@ -1,5 +1,3 @@
-use native.Mathlib.Omega.{arith}
-use Rattle.laws.proofs.Runs.{counted-none}
 use borrow.Author.Needs.{needs}
 use Rattle.measure.proofs.bytes.count_run.Statement.{statement}
 use Rattle.measure.proofs.bytes.count_run.Tie as tie
@@ -13,11 +11,14 @@ count-requires c κs = search needs
 enum-told-2 : tie.Need-enum-told-2
 enum-told-2 c = search needs
 
+count-requires-2 : tie.Need-count-requires-2
+count-requires-2 c κs = search needs
+
 returns : tie.Need-returns
 returns c = rw (c .before .enum-told .given .1) (c .count .ensures)
 
 returns-2 : tie.Need-returns-2
-returns-2 c = counted-none (omega (arith, c .before .before .before .pre .0))
+returns-2 c = rw (c .before .enum-told2 .given .1) (c .count2 .ensures)
 
 pub count-run-spec : {M : Type 1} → statement M
-count-run-spec = tie.close (tie.spec enum-told count-requires enum-told-2 returns returns-2)
+count-run-spec = tie.close (tie.spec enum-told count-requires enum-told-2 count-requires-2 returns returns-2)

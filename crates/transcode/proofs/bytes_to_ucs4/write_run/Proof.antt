@@ -1,5 +1,4 @@
 use native.Mathlib.Omega.{arith}
-use Rattle.laws.proofs.Runs.{wrote-none}
 use Prim.Native.Nat.{_≤_}
 use borrow.Author.Needs.{needs}
 use Rattle.transcode.proofs.bytes_to_ucs4.write_run.Statement.{statement}
@@ -14,15 +13,23 @@ write-requires c κs = rw (c .before .enum-told .given .1) at (c .before .before
 enum-told-2 : tie.Need-enum-told-2
 enum-told-2 c = search needs
 
+write-requires-2 : tie.Need-write-requires-2
+write-requires-2 c κs =
+    let p = rw (c .before .enum-told2 .given .1) at (c .before .before .before .before .before .pre) in
+    (omega (arith, p .0), p .1)
+
 same-length : tie.Need-same-length
 same-length c = search needs
 
 returns : tie.Need-returns
 returns c = rw (c .before .before .before .before .enum-told .given .1) (c .before .before .write .ensures)
 
+same-length-2 : tie.Need-same-length-2
+same-length-2 c = search needs
+
 returns-2 : tie.Need-returns-2
-returns-2 c = wrote-none (omega (arith, c .before .before .before .before .pre .0))
+returns-2 c = rw (c .before .before .before .before .enum-told2 .given .1) (c .before .before .write2 .ensures)
 
 pub write-run-spec : {M : Type 1} → statement M
 write-run-spec =
-    tie.close (tie.spec enum-told write-requires enum-told-2 same-length returns returns-2)
+    tie.close (tie.spec enum-told write-requires enum-told-2 write-requires-2 same-length returns same-length-2 returns-2)
