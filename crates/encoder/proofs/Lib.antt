@@ -2,3 +2,4 @@ pub mod WholeUnits
 pub mod Lengths
 pub mod Backward
 pub mod Targets
+pub mod FssUtf

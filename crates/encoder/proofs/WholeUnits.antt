@@ -63,3 +63,18 @@ put-one d at x e q h = rw q (put-units d at (x ∷ []) (rw q at h))
 
 pub put-two : (d : List ℕ) (at x y : ℕ) (e : List ℕ) → e ≡ x ∷ y ∷ [] → at + length e ≤ length d → set (set d at x) (at + 1) y ≡ withUnits d at e
 put-two d at x y e q h = rw (q, add-one at) (put-units d at (x ∷ y ∷ []) (rw q at h))
+
+pub put-three :
+    (d : List ℕ) (at x y z : ℕ) (e : List ℕ) → e ≡ x ∷ y ∷ z ∷ [] → at + length e ≤ length d
+    → set (set (set d at x) (at + 1) y) (at + 2) z ≡ withUnits d at e
+put-three d at x y z e q h =
+    let b : at + 2 ≡ suc (suc at) = omega arith in
+    rw (q, b, add-one at) (put-units d at (x ∷ y ∷ z ∷ []) (rw q at h))
+
+pub put-four :
+    (d : List ℕ) (at x y z w : ℕ) (e : List ℕ) → e ≡ x ∷ y ∷ z ∷ w ∷ [] → at + length e ≤ length d
+    → set (set (set (set d at x) (at + 1) y) (at + 2) z) (at + 3) w ≡ withUnits d at e
+put-four d at x y z w e q h =
+    let b : at + 2 ≡ suc (suc at) = omega arith in
+    let c : at + 3 ≡ suc (suc (suc at)) = omega arith in
+    rw (q, c, b, add-one at) (put-units d at (x ∷ y ∷ z ∷ w ∷ []) (rw q at h))

@@ -1,0 +1,192 @@
+-- Blocks: a bound on so many code units of a text, and values whose encodings are put into a buffer one behind the other.
+use Prim.Native.Nat.{ℕ, zero, suc, _+_, _-_, _≤_, _<_}
+use mathlib.Core.Path.{_≡_, refl, sym, ap, _∙_}
+use mathlib.Core.Logic.{_≢_}
+use mathlib.Core.List.{List, [], _∷_, _++_, append-assoc, append-nil}
+use native.Mathlib.Omega.{arith}
+use native.Mathlib.Nat.{le-trans, add-zero, add-assoc}
+use native.Mathlib.Numerals.{add-one}
+use lib.Bits.{bitOr, or-add-and, and-le-l, and-le-r}
+use lib.ListN.{length, getD, set, take, drop, length-append, take-append-drop}
+use lib.Seq.{length-take-le, take-at, drop-at, drop-drop, drop-cons, take-add, set-split}
+use borrow.Author.Count.{below-none, below-more}
+use Rattle.forms.specs.Form.{Form, encode, encodeAll}
+use Rattle.forms.specs.Buffer.{withUnits}
+use Rattle.laws.proofs.Buffers.{length-with}
+use Rattle.laws.proofs.Runs.{Run, Wrote, sum, sum-zero, sum-more}
+
+-- the n units from `at` on are at most m
+pub record AtMost (s : List ℕ) (at n m : ℕ) : Type 0 where
+  pub each : (k : ℕ) → k < n → getD s (at + k) 0 ≤ m
+
+pub at-most-none : {s : List ℕ} {at m : ℕ} → AtMost s at 0 m
+at-most-none {s} {at} {m} = record { each = below-none (λ (k : ℕ). getD s (at + k) 0 ≤ m) }
+
+pub at-most-within : {s : List ℕ} {at n m : ℕ} (l : ℕ) → AtMost s at n m → m ≤ l → AtMost s at n l
+at-most-within l a h = record { each = λ k b. le-trans (a .each k b) h }
+
+or-left : (a b : ℕ) → a ≤ bitOr a b
+or-left a b = omega (arith, or-add-and a b, and-le-r a b)
+
+or-right : (a b : ℕ) → b ≤ bitOr a b
+or-right a b = omega (arith, or-add-and a b, and-le-l a b)
+
+-- joined by OR, none exceeds the result
+pub at-most-more : {s : List ℕ} {at n m : ℕ} → AtMost s at n m → AtMost s at (n + 1) (bitOr m (getD s (at + n) 0))
+at-most-more {s} {at} {n} {m} a =
+    let u = getD s (at + n) 0 in
+    record { each = below-more (λ (k : ℕ). getD s (at + k) 0 ≤ bitOr m u) n (at-most-within (bitOr m u) a (or-left m u) .each) (or-right m u) }
+
+-- the n units from `at` on
+abbrev pub part : List ℕ → ℕ → ℕ → List ℕ
+part s at n = take n (drop at s)
+
+pub part-join : (s : List ℕ) (at k l : ℕ) → part s at (k + l) ≡ part s at k ++ part s (at + k) l
+part-join s at k l = take-add k l (drop at s) ∙ ap (λ (x : List ℕ). part s at k ++ take l x) (drop-drop k at s)
+
+pub part-one : (s : List ℕ) (at : ℕ) → at < length s → part s at 1 ≡ getD s at 0 ∷ []
+part-one s at h = rw (drop-cons s at 0 h)
+
+module _ (G : Form) where
+  pub encode-all-append : (a b : List ℕ) → encodeAll G (a ++ b) ≡ encodeAll G a ++ encodeAll G b
+  encode-all-append [] b = refl
+  encode-all-append (v ∷ a) b = ap (λ (x : List ℕ). encode G v ++ x) (encode-all-append a b) ∙ sym (append-assoc (encode G v) (encodeAll G a) (encodeAll G b))
+
+  pub encode-all-one : (v : ℕ) → encodeAll G (v ∷ []) ≡ encode G v
+  encode-all-one v = append-nil (encode G v)
+
+  pub encode-all-join : (s : List ℕ) (at k l : ℕ) → encodeAll G (part s at (k + l)) ≡ encodeAll G (part s at k) ++ encodeAll G (part s (at + k) l)
+  encode-all-join s at k l = ap (encodeAll G) (part-join s at k l) ∙ encode-all-append (part s at k) (part s (at + k) l)
+
+-- units put in behind units
+pub with-none : (d : List ℕ) (n : ℕ) → d ≡ withUnits d n []
+with-none d n = rw (add-zero n) (sym (take-append-drop n d))
+
+pub with-one : (d : List ℕ) (n x : ℕ) → n < length d → set d n x ≡ withUnits d n (x ∷ [])
+with-one d n x h = rw (add-one n) (set-split d n x h)
+
+pub with-join : (d a b : List ℕ) (n : ℕ) → n + length a ≤ length d → withUnits (withUnits d n a) (n + length a) b ≡ withUnits d n (a ++ b)
+with-join d a b n h =
+    let o = withUnits d n a in
+    let front = take n d ++ a in
+    let rest = drop (n + length a) d in
+    let e : o ≡ front ++ rest = sym (append-assoc (take n d) a rest) in
+    let l : length front ≡ n + length a = length-append (take n d) a ∙ ap (λ (x : ℕ). x + length a) (length-take-le n d (omega arith)) in
+    let t : take (n + length a) o ≡ front = ap (take (n + length a)) e ∙ take-at front rest (n + length a) l in
+    let r : drop (n + length a) o ≡ rest = ap (drop (n + length a)) e ∙ drop-at front rest (n + length a) l in
+    let q : drop (n + length a + length b) o ≡ drop (n + (length a + length b)) d =
+    sym (drop-drop (length b) (n + length a) o) ∙ ap (drop (length b)) r ∙ drop-drop (length b) (n + length a) d ∙ ap (λ (x : ℕ). drop x d) (add-assoc n (length a) (length b)) in
+    rw (t, q, length-append a b, append-assoc (take n d) a, append-assoc a b)
+
+-- each of the k values from `at` on has an encoding
+pub record Encodable (G : Form) (s : List ℕ) (at k : ℕ) : Type 0 where
+  pub inside : at + k ≤ length s
+  pub each : (j : ℕ) → j < k → encode G (getD s (at + j) 0) ≢ []
+
+-- their encodings were put into the buffer d from n on, up to u
+pub record Encoded (G : Form) (s : List ℕ) (at k : ℕ) (d : List ℕ) (n u : ℕ) (o : List ℕ) : Type 0 where
+  pub counted : u ≡ n + length (encodeAll G (part s at k))
+  pub cells : o ≡ withUnits d n (encodeAll G (part s at k))
+
+-- they have room there
+pub record Room (G : Form) (s : List ℕ) (at k n m : ℕ) : Type 0 where
+  pub fits : n + length (encodeAll G (part s at k)) ≤ m
+
+parts : (G : Form) (s : List ℕ) (at k c : ℕ) → k ≤ c → length (encodeAll G (part s at c)) ≡ length (encodeAll G (part s at k)) + length (encodeAll G (part s (at + k) (c - k)))
+parts G s at k c h =
+    let q : c ≡ k + (c - k) = omega arith in
+    ap (λ (x : ℕ). length (encodeAll G (part s at x))) q
+    ∙ ap length (encode-all-join G s at k (c - k))
+    ∙ length-append (encodeAll G (part s at k)) (encodeAll G (part s (at + k) (c - k)))
+
+module _ {G : Form} {s : List ℕ} where
+  pub encoded-none : {at n : ℕ} {d : List ℕ} → Encoded G s at 0 d n n d
+  encoded-none {at} {n} {d} = record { counted = sym (add-zero n); cells = with-none d n }
+
+  pub encoded-start : {at n : ℕ} {d : List ℕ} → Encoded G s at 0 d n (n + 0) d
+  encoded-start {at} {n} {d} = record { counted = refl; cells = with-none d n }
+
+  -- one value
+  pub encoded-one :
+      {at v n u : ℕ} {d o : List ℕ} → at < length s → v ≡ getD s at 0 → u ≡ n + length (encode G v) → o ≡ withUnits d n (encode G v) → Encoded G s at 1 d n u o
+  encoded-one {at} {v} {n} {u} {d} {o} h e c w =
+      let q : encodeAll G (part s at 1) ≡ encode G v = ap (encodeAll G) (part-one s at h) ∙ encode-all-one G (getD s at 0) ∙ ap (encode G) (sym e) in
+      record { counted = rw q c; cells = rw q w }
+
+  pub encoded-length : {at k n u c : ℕ} {d o : List ℕ} → Room G s at c n (length d) → Encoded G s at k d n u o → k ≤ c → length o ≡ length d
+  encoded-length {at} {k} {n} {u} {c} {d} {o} r e h = length-with d (encodeAll G (part s at k)) o n (e .cells) (omega (arith, r .fits, parts G s at k c h))
+
+  -- behind some of the values there is room for others
+  pub encoded-room :
+      {at k n u c : ℕ} {d o : List ℕ} (l : ℕ) → Room G s at c n (length d) → Encoded G s at k d n u o → k + l ≤ c → Room G s (at + k) l u (length o)
+  encoded-room {at} {k} {n} {u} {c} {d} {o} l r e h =
+      record {
+        fits = omega (arith, r .fits, e .counted, encoded-length r e (omega arith), parts G s at k c (omega arith), parts G s (at + k) l (c - k) (omega arith));
+      }
+
+  pub value-room :
+      {at k n u c : ℕ} {d o : List ℕ} → at + c ≤ length s → Room G s at c n (length d) → k < c → Encoded G s at k d n u o
+      → u + length (encode G (getD s (at + k) 0)) ≤ length o
+  value-room {at} {k} {n} {u} {c} {d} {o} i r h e =
+      let q : encodeAll G (part s (at + k) 1) ≡ encode G (getD s (at + k) 0) = ap (encodeAll G) (part-one s (at + k) (omega arith)) ∙ encode-all-one G (getD s (at + k) 0) in
+      rw q at (encoded-room 1 r e (omega arith) .fits)
+
+  pub encoded-join :
+      {at k l n u v c : ℕ} {d o p : List ℕ} → Room G s at c n (length d) → k ≤ c → Encoded G s at k d n u o → Encoded G s (at + k) l o u v p → Encoded G s at (k + l) d n v p
+  encoded-join {at} {k} {l} {n} {u} {v} {c} {d} {o} {p} r h a b =
+      let x = encodeAll G (part s at k) in
+      let y = encodeAll G (part s (at + k) l) in
+      let j = encode-all-join G s at k l in
+      let m : n + length x ≤ length d = omega (arith, encoded-room 0 r a (omega arith) .fits, encoded-length r a h, a .counted) in
+      record {
+        counted = rw (j, length-append x y) (omega (arith, a .counted, b .counted));
+        cells = b .cells ∙ rw (j, a .counted, a .cells) (with-join d x y n m);
+      }
+
+  pub encodable-part : {at c : ℕ} (k l : ℕ) → Encodable G s at c → k + l ≤ c → Encodable G s (at + k) l
+  encodable-part {at} {c} k l e h =
+      record { inside = omega (arith, e .inside); each = λ j b. rw (add-assoc at k j) (e .each (k + j) (omega arith)) }
+
+  -- a loop that puts in values which are their own encodings: it has room, and turns
+  pub encoded-put :
+      {at k n c : ℕ} {d o : List ℕ} → Room G s at c n (length d) → at + c ≤ length s → k < c → Encoded G s at k d n (n + k) o
+      → encode G (getD s (at + k) 0) ≡ getD s (at + k) 0 ∷ [] → (n + k < length o) × Encoded G s at (k + 1) d n (n + (k + 1)) (set o (n + k) (getD s (at + k) 0))
+  encoded-put {at} {k} {n} {c} {d} {o} r i h a e =
+      let l : at + k < length s = omega arith in
+      let q : encodeAll G (part s (at + k) 1) ≡ getD s (at + k) 0 ∷ [] = ap (encodeAll G) (part-one s (at + k) l) ∙ encode-all-one G (getD s (at + k) 0) ∙ e in
+      let b : n + k < length o = omega (arith, encoded-room 1 r a (omega arith) .fits, ap length q) in
+      let one : Encoded G s (at + k) 1 o (n + k) (n + (k + 1)) (set o (n + k) (getD s (at + k) 0)) =
+      encoded-one l refl (rw e (omega arith)) (rw e (with-one o (n + k) (getD s (at + k) 0) b)) in
+      (b, encoded-join r (omega arith) a one)
+
+  -- the last of several blocks
+  pub encoded-last :
+      {at k n u v c : ℕ} {d o p : List ℕ} → Room G s at c n (length d) → k ≤ c → Encoded G s at k d n u o → Encoded G s (at + k) (c - k) o u v p → Encoded G s at c d n v p
+  encoded-last {at} {k} {n} {u} {v} {c} {d} {o} {p} r h a b =
+      let q : k + (c - k) ≡ c = omega arith in
+      rw q at (encoded-join r h a b)
+
+-- sums over a block, by what is summed at each place
+pub sum-same : (f g : ℕ → ℕ) (at k : ℕ) → ((i : ℕ) → i < k → f (at + i) ≡ g (at + i)) → sum f at k ≡ sum g at k
+sum-same f g at zero h = sum-zero f at ∙ sym (sum-zero g at)
+sum-same f g at (suc k) h = rw (← add-one k, sum-more f at k, sum-more g at k, sum-same f g at k (λ i b. h i (omega arith)), h k (omega arith))
+
+pub sum-plus : (f g : ℕ → ℕ) (at k : ℕ) → sum (λ i. f i + g i) at k ≡ sum f at k + sum g at k
+sum-plus f g at zero = sum-zero (λ i. f i + g i) at ∙ sym (rw (sum-zero f at, sum-zero g at))
+sum-plus f g at (suc k) =
+    rw (← add-one k, sum-more (λ i. f i + g i) at k, sum-more f at k, sum-more g at k, sum-plus f g at k) (omega arith)
+
+pub sum-ones : (at k : ℕ) → sum (λ i. 1) at k ≡ k
+sum-ones at zero = sum-zero (λ i. 1) at
+sum-ones at (suc k) = rw (← add-one k, sum-more (λ i. 1) at k, sum-ones at k)
+
+pub sum-none : (f : ℕ → ℕ) (at k : ℕ) → ((i : ℕ) → i < k → f (at + i) ≡ 0) → sum f at k ≡ 0
+sum-none f at zero h = sum-zero f at
+sum-none f at (suc k) h = rw (← add-one k, sum-more f at k, sum-none f at k (λ i b. h i (omega arith)), h k (omega arith))
+
+module _ {F G : Form} {s : List ℕ} where
+  -- values written are a run written
+  pub wrote-encoded :
+      {at k from c n u : ℕ} {b d o : List ℕ} → Run F G s at k (encodeAll G (part b from c)) → Encoded G b from c d n u o → Wrote F G s at k (u - n) d n o
+  wrote-encoded {at} {k} {from} {c} {n} {u} {b} {d} {o} r e =
+      record { out = encodeAll G (part b from c); run = r; counted = omega (arith, e .counted); cells = e .cells }
