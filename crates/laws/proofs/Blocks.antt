@@ -13,7 +13,7 @@ use borrow.Author.Count.{below-none, below-more}
 use Rattle.forms.specs.Form.{Form, encode, encodeAll}
 use Rattle.forms.specs.Buffer.{withUnits}
 use Rattle.laws.proofs.Buffers.{length-with}
-use Rattle.laws.proofs.Runs.{Run, Wrote, sum, sum-zero, sum-more}
+use Rattle.laws.proofs.Runs.{Run, Wrote, run-none, sum, sum-zero, sum-more}
 
 -- the n units from `at` on are at most m
 pub record AtMost (s : List ℕ) (at n m : ℕ) : Type 0 where
@@ -190,3 +190,7 @@ module _ {F G : Form} {s : List ℕ} where
       {at k from c n u : ℕ} {b d o : List ℕ} → Run F G s at k (encodeAll G (part b from c)) → Encoded G b from c d n u o → Wrote F G s at k (u - n) d n o
   wrote-encoded {at} {k} {from} {c} {n} {u} {b} {d} {o} r e =
       record { out = encodeAll G (part b from c); run = r; counted = omega (arith, e .counted); cells = e .cells }
+
+  -- a run of none
+  pub wrote-none : {at n : ℕ} {d : List ℕ} → at ≤ length s → Wrote F G s at 0 0 d n d
+  wrote-none {at} {n} {d} h = record { out = []; run = run-none h; counted = refl; cells = with-none d n }
