@@ -20,6 +20,7 @@ use Rattle.forms.specs.Conversion.{converted, refused, convertItems, outcome, M
 use Rattle.laws.proofs.Outcomes.{converted-same}
 use Rattle.laws.proofs.Answers.{answer-units, answer-refused}
 use Rattle.laws.proofs.Buffers.{holds-none, holds-more, length-with}
+use Rattle.laws.proofs.Blocks.{with-none}
 use Rattle.laws.proofs.Characters.{prepend-converted}
 use Rattle.laws.proofs.Items.{itemsOnward}
 use Rattle.laws.proofs.Runs.{Convertible, Wrote, progress-run, convertible-run}
@@ -103,6 +104,21 @@ module _ {F G : Form} {s d : List ℕ} where
           holds = holds-more d (w .done) (r .out) o o₂ written (written + u) (w .holds) (ap (λ (x : ℕ). written + x) (r .counted)) (r .cells);
           same = length-with o (r .out) o₂ written (r .cells) room ∙ w .same;
         }
+
+    -- a run of none leaves the buffer as it was
+    pub writing-still : {k u : ℕ} {o₂ : List ℕ} → Writing F G s d p written o → Wrote F G s p k u o written o₂ → k ≡ 0 → Writing F G s d p written o₂
+    writing-still {k} {u} {o₂} w r z =
+        let c = writing-convertible w in
+        let q = prepend-converted (r .out) (c .rest) (convertItems G (itemsOnward F s (p + k))) (sym (r .run .comes) ∙ c .comes) in
+        let b : p + k ≡ p = omega arith in
+        let e : c .rest ≡ q .0 = converted-same (sym (c .comes) ∙ ap (λ (x : ℕ). convertItems G (itemsOnward F s x)) (sym b) ∙ q .1) in
+        let l : length (r .out) ≡ 0 = omega (arith, ap length e, ap length (q .2), length-append (r .out) (q .0)) in
+        let n : o₂ ≡ o = r .cells ∙ ap (withUnits o written) (empty (r .out) l) ∙ sym (with-none o written) in
+        rw n w
+      where
+        empty : (x : List ℕ) → length x ≡ 0 → x ≡ []
+        empty [] h = refl
+        empty (y ∷ ys) h = absurd (omega arith)
 
     module _ {v : ℕ} {q : Span} where
       pub writing-held : Writing F G s d p written o → CharacterAt F s p v q → (encode G v ≢ []) × (written + length (encode G v) ≤ length o)
