@@ -1,4 +1,4 @@
-// FSS-UTF, fast: one value by straight code, and several values at once. `laws/proofs/Blocks` says what is asked and promised of several.
+// FSS-UTF, fast: one value by straight code, and several values at once. `laws/proofs/Values` says what is asked and promised of several.
 use tables::ByteForm;
 ghost use mathlib.Core.Path.{_≡_};
 ghost use Prim.Native.Nat.{_+_, _<_, _≤_};
@@ -6,7 +6,7 @@ ghost use lib.ListN.{length};
 ghost use Rattle.forms.specs.Form.{encode};
 ghost use Rattle.forms.specs.Forms.{fssUtf};
 ghost use Rattle.forms.specs.Buffer.{withUnits};
-ghost use Rattle.laws.proofs.Blocks.{AtMost, Encodable, Encoded, Room};
+ghost use Rattle.laws.proofs.Values.{AtMost, Encodable, Encoded, Room};
 
 // What `bytes::write` does for FSS-UTF.
 pub fn write(value: u32, dst: &mut [u8], at: usize) -> usize

@@ -1,7 +1,7 @@
 // Several values at once.
 ghost use Prim.Native.Nat.{_+_, _≤_};
 ghost use lib.ListN.{length};
-ghost use Rattle.laws.proofs.Blocks.{AtMost};
+ghost use Rattle.laws.proofs.Values.{AtMost};
 
 // The values joined by OR: none of them exceeds it. The loop has no branch, so that it is compiled to vector code.
 pub fn joined(values: &[u32], from: usize, count: usize) -> u32

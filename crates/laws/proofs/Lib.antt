@@ -25,4 +25,4 @@ pub mod TwelvePairs
 pub mod Distances
 pub mod Starts
 pub mod Runs
-pub mod Blocks
+pub mod Values

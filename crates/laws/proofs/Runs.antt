@@ -45,6 +45,12 @@ pub record Convertible (F G : Form) (s : List ℕ) (at n m : ℕ) : Type 0 where
   pub comes : convertItems G (itemsOnward F s at) ≡ converted rest
   pub fits : n + length rest ≤ m
 
+-- a character stands at p
+pub record Stands (F : Form) (s : List ℕ) (p : ℕ) : Type 0 where
+  pub value : ℕ
+  pub place : Span
+  pub here : CharacterAt F s p value place
+
 onward : (F : Form) (s : List ℕ) (p : ℕ) (i : Item) → p < length s → i ≡ itemOf F p (sequenceAt F s p) → itemsOnward F s p ≡ i ∷ itemsOnward F s (p + (spanOf i) .length)
 onward F s p i h e = items-step F s p h ∙ rw (e, length-at F s p h)
 
@@ -104,6 +110,14 @@ module _ {F G : Form} {s : List ℕ} where
   -- and no mark is among them
   pub convertible-mark : {A : Type 0} {at n m : ℕ} {f : Fault} {q : Span} → Convertible F G s at n m → MarkAt F s at f q → A
   convertible-mark {A} {at} {n} {m} {f} {q} c a = absurd (convertible-put (Mark f q) (a .inside) (a .is) c refl)
+
+  -- the first of them is a character
+  pub convertible-stands : {at n m : ℕ} → at < length s → Convertible F G s at n m → Stands F s at
+  convertible-stands {at} h c = go (itemOf F at (sequenceAt F s at)) refl
+    where
+      go : (i : Item) → i ≡ itemOf F at (sequenceAt F s at) → Stands F s at
+      go (Character v q) e = record { value = v; place = q; here = record { inside = h; is = e } }
+      go (Mark f q) e = absurd (convertible-put (Mark f q) h e c refl)
 
   pub counted-none : {at : ℕ} → at ≤ length s → Counted F G s at 0 0
   counted-none h = record { out = []; run = run-none h; counted = refl; small = omega arith }

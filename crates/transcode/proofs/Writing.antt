@@ -20,7 +20,7 @@ use Rattle.forms.specs.Conversion.{converted, refused, convertItems, outcome, M
 use Rattle.laws.proofs.Outcomes.{converted-same}
 use Rattle.laws.proofs.Answers.{answer-units, answer-refused}
 use Rattle.laws.proofs.Buffers.{holds-none, holds-more, length-with}
-use Rattle.laws.proofs.Blocks.{with-none}
+use Rattle.laws.proofs.Values.{with-none}
 use Rattle.laws.proofs.Characters.{prepend-converted}
 use Rattle.laws.proofs.Items.{itemsOnward}
 use Rattle.laws.proofs.Runs.{Convertible, Wrote, progress-run, convertible-run}

@@ -16,7 +16,7 @@ use Rattle.forms.specs.Form.{Form, encode, span}
 use Rattle.forms.specs.Forms.{ucs4, utf16}
 use Rattle.forms.specs.Layout.{lowestOf}
 use Rattle.laws.proofs.Runs.{Counted, sum, sum-zero, sum-more, Next, between}
-use Rattle.laws.proofs.Blocks.{AtMost, sum-same, sum-plus, sum-ones, sum-none}
+use Rattle.laws.proofs.Values.{AtMost, sum-same, sum-plus, sum-ones, sum-none}
 use Rattle.tables.specs.ByteForms.{byteForm, layoutOf}
 use Rattle.tables.specs.declared.ByteForm.{ByteForm}
 use Rattle.tables.specs.declared.ByteForm.the-variants.{FssUtf, UtfEbcdic}

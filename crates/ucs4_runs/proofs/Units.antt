@@ -12,7 +12,7 @@ use Rattle.forms.specs.Form.{Form, encode, encodeAll, span}
 use Rattle.forms.specs.Forms.{ucs4}
 use Rattle.laws.proofs.Progress.{CharacterAt, MarkAt}
 use Rattle.laws.proofs.Runs.{Run, Convertible, run-none, run-one, run-join, convertible-run, convertible-character, convertible-mark}
-use Rattle.laws.proofs.Blocks.{part, part-one, encode-all-one, encode-all-join, Encodable, Room}
+use Rattle.laws.proofs.Values.{part, part-one, encode-all-one, encode-all-join, Encodable, Room}
 use Rattle.items.proofs.WholeUnits.{ucs4-character, ucs4-mark}
 
 pub unit-character : (s : List ℕ) (p : ℕ) → p < length s → getD s p 0 < 0x80000000 → CharacterAt ucs4 s p (getD s p 0) (span p 1)

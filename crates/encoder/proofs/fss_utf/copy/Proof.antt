@@ -5,7 +5,7 @@ use native.Mathlib.Omega.{arith}
 use lib.ListN.{length, getD, set}
 use denote.Ref.{now}
 use Rattle.forms.specs.Forms.{fssUtf}
-use Rattle.laws.proofs.Blocks.{Encoded, encoded-start, encoded-put, encoded-length}
+use Rattle.laws.proofs.Values.{Encoded, encoded-start, encoded-put, encoded-length}
 use Rattle.encoder.proofs.FssUtf.{one-byte}
 use borrow.Author.Needs.{needs}
 use Rattle.encoder.proofs.fss_utf.copy.Statement.{statement}

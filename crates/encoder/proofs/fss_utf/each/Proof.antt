@@ -4,7 +4,7 @@ use native.Mathlib.Omega.{arith}
 use lib.ListN.{length, getD}
 use denote.Ref.{now}
 use Rattle.forms.specs.Forms.{fssUtf}
-use Rattle.laws.proofs.Blocks.{Encoded, encoded-none, encoded-one, value-room, encoded-join, encoded-length}
+use Rattle.laws.proofs.Values.{Encoded, encoded-none, encoded-one, value-room, encoded-join, encoded-length}
 use Rattle.encoder.proofs.FssUtf.{small}
 use borrow.Author.Needs.{needs}
 use Rattle.encoder.proofs.fss_utf.each.Statement.{statement}

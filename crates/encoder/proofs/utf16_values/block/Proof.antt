@@ -1,5 +1,5 @@
 use native.Mathlib.Omega.{arith}
-use Rattle.laws.proofs.Blocks.{at-most-within}
+use Rattle.laws.proofs.Values.{at-most-within}
 use borrow.Author.Needs.{needs}
 use Rattle.encoder.proofs.utf16_values.block.Statement.{statement}
 use Rattle.encoder.proofs.utf16_values.block.Tie as tie

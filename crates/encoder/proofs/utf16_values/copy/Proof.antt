@@ -5,7 +5,7 @@ use native.Mathlib.Omega.{arith}
 use lib.ListN.{length, getD, set}
 use denote.Ref.{now}
 use Rattle.forms.specs.Forms.{utf16}
-use Rattle.laws.proofs.Blocks.{Encoded, encoded-start, encoded-put, encoded-length}
+use Rattle.laws.proofs.Values.{Encoded, encoded-start, encoded-put, encoded-length}
 use Rattle.encoder.proofs.WholeUnits.{unit}
 use borrow.Author.Needs.{needs}
 use Rattle.encoder.proofs.utf16_values.copy.Statement.{statement}

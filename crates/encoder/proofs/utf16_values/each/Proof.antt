@@ -4,7 +4,7 @@ use native.Mathlib.Omega.{arith}
 use lib.ListN.{length, getD}
 use denote.Ref.{now}
 use Rattle.forms.specs.Forms.{utf16}
-use Rattle.laws.proofs.Blocks.{Encoded, encoded-none, encoded-one, value-room, encoded-join, encoded-length}
+use Rattle.laws.proofs.Values.{Encoded, encoded-none, encoded-one, value-room, encoded-join, encoded-length}
 use borrow.Author.Needs.{needs}
 use Rattle.encoder.proofs.utf16_values.each.Statement.{statement}
 use Rattle.encoder.proofs.utf16_values.each.Tie as tie

@@ -3,7 +3,7 @@ use mathlib.Core.Path.{_≡_}
 use native.Mathlib.Omega.{arith}
 use lib.ListN.{length}
 use Rattle.forms.specs.Forms.{utf16}
-use Rattle.laws.proofs.Blocks.{Encoded, encoded-none, encoded-join, encoded-last, encoded-room, encoded-length, encodable-part}
+use Rattle.laws.proofs.Values.{Encoded, encoded-none, encoded-join, encoded-last, encoded-room, encoded-length, encodable-part}
 use borrow.Author.Needs.{needs}
 use Rattle.encoder.proofs.utf16_values.write_all.Statement.{statement}
 use Rattle.encoder.proofs.utf16_values.write_all.Tie as tie

@@ -1,7 +1,7 @@
 use Prim.Native.Nat.{_-_, _≤_}
 use mathlib.Core.Path.{_≡_}
 use native.Mathlib.Omega.{arith}
-use Rattle.laws.proofs.Blocks.{AtMost, at-most-none, at-most-more}
+use Rattle.laws.proofs.Values.{AtMost, at-most-none, at-most-more}
 use borrow.Author.Needs.{needs}
 use Rattle.encoder.proofs.values.joined.Statement.{statement}
 use Rattle.encoder.proofs.values.joined.Tie as tie

@@ -1,4 +1,4 @@
-use Rattle.laws.proofs.Blocks.{wrote-none}
+use Rattle.laws.proofs.Values.{wrote-none}
 use borrow.Author.Needs.{needs}
 use Rattle.ucs4_runs.proofs.to_bytes.write.Statement.{statement}
 use Rattle.ucs4_runs.proofs.to_bytes.write.Tie as tie

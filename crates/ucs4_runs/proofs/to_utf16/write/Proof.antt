@@ -2,7 +2,7 @@ use Prim.Native.Nat.{_+_, _-_, _≤_}
 use native.Mathlib.Omega.{arith}
 use lib.ListN.{length}
 use denote.Ref.{now}
-use Rattle.laws.proofs.Blocks.{wrote-encoded}
+use Rattle.laws.proofs.Values.{wrote-encoded}
 use Rattle.ucs4_runs.proofs.Units.{units-run, units-encodable, units-room}
 use borrow.Author.Needs.{needs}
 use Rattle.ucs4_runs.proofs.to_utf16.write.Statement.{statement}

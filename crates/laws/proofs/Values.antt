@@ -1,19 +1,21 @@
--- Blocks: a bound on so many code units of a text, and values whose encodings are put into a buffer one behind the other.
+-- Many values at once: a bound on so many code units of a text, encodings put into a buffer one behind the other, and runs that a loop writes.
 use Prim.Native.Nat.{ℕ, zero, suc, _+_, _-_, _≤_, _<_}
 use mathlib.Core.Path.{_≡_, refl, sym, ap, _∙_}
 use mathlib.Core.Logic.{_≢_}
+use mathlib.Core.Bool.{Bool, true, false, _&&_, _||_}
 use mathlib.Core.List.{List, [], _∷_, _++_, append-assoc, append-nil}
 use native.Mathlib.Omega.{arith}
 use native.Mathlib.Nat.{le-trans, add-zero, add-assoc}
 use native.Mathlib.Numerals.{add-one}
 use lib.Bits.{bitOr, or-add-and, and-le-l, and-le-r}
-use lib.ListN.{length, getD, set, take, drop, length-append, take-append-drop}
-use lib.Seq.{length-take-le, take-at, drop-at, drop-drop, drop-cons, take-add, set-split}
+use lib.ListN.{length, getD, set, take, drop, length-append, length-drop, take-append-drop}
+use lib.Seq.{length-take-le, take-at, drop-at, drop-drop, drop-cons, take-add, set-split, getD-drop, paste}
 use borrow.Author.Count.{below-none, below-more}
-use Rattle.forms.specs.Form.{Form, encode, encodeAll}
+use Rattle.forms.specs.Form.{Form, encode, encodeAll, span}
 use Rattle.forms.specs.Buffer.{withUnits}
-use Rattle.laws.proofs.Buffers.{length-with}
-use Rattle.laws.proofs.Runs.{Run, Wrote, run-none, sum, sum-zero, sum-more}
+use Rattle.laws.proofs.Buffers.{length-with, copy-begin, copy-more, copy-length, copy-end}
+use Rattle.laws.proofs.Progress.{CharacterAt}
+use Rattle.laws.proofs.Runs.{Run, Wrote, Convertible, run-none, run-one, run-join, convertible-run, convertible-character, sum, sum-zero, sum-more}
 
 -- the n units from `at` on are at most m
 pub record AtMost (s : List ℕ) (at n m : ℕ) : Type 0 where
@@ -194,3 +196,113 @@ module _ {F G : Form} {s : List ℕ} where
   -- a run of none
   pub wrote-none : {at n : ℕ} {d : List ℕ} → at ≤ length s → Wrote F G s at 0 0 d n d
   wrote-none {at} {n} {d} h = record { out = []; run = run-none h; counted = refl; cells = with-none d n }
+
+-- a loop that writes a run: k units from `at` on were written from n up to `end`
+pub record WrittenTo (F G : Form) (s : List ℕ) (at k : ℕ) (d : List ℕ) (n end : ℕ) (o : List ℕ) : Type 0 where
+  pub out : List ℕ
+  pub run : Run F G s at k out
+  pub counted : end ≡ n + length out
+  pub cells : o ≡ withUnits d n out
+
+module _ {F G : Form} {s : List ℕ} where
+  pub written-none : {at n : ℕ} {d : List ℕ} → at ≤ length s → WrittenTo F G s at 0 d n n d
+  written-none {at} {n} {d} h = record { out = []; run = run-none h; counted = sym (add-zero n); cells = with-none d n }
+
+  module _ {at k n end : ℕ} {d o : List ℕ} (c : Convertible F G s at n (length d)) (w : WrittenTo F G s at k d n end o) where
+    pub written-length : length o ≡ length d
+    written-length = length-with d (w .out) o n (w .cells) (convertible-run c (w .run) .0)
+
+    -- what is left
+    pub written-left : Convertible F G s (at + k) end (length o)
+    written-left = rw (w .counted, written-length) (convertible-run c (w .run) .1)
+
+    pub written-room : {l : ℕ} {e : List ℕ} → Run F G s (at + k) l e → end + length e ≤ length o
+    written-room r = convertible-run written-left r .0
+
+    pub written-join : {l m : ℕ} {e p : List ℕ} → Run F G s (at + k) l e → m ≡ end + length e → p ≡ withUnits o end e → WrittenTo F G s at (k + l) d n m p
+    written-join {l} {m} {e} {p} r q g =
+        record {
+          out = w .out ++ e;
+          run = run-join (w .run) r;
+          counted = omega (arith, w .counted, length-append (w .out) e);
+          cells = g ∙ rw (w .counted, w .cells) (with-join d (w .out) e n (convertible-run c (w .run) .0));
+        }
+
+    pub written-run : {l u : ℕ} {p : List ℕ} → Wrote F G s (at + k) l u o end p → WrittenTo F G s at (k + l) d n (end + u) p
+    written-run r = written-join (r .run) (ap (λ (x : ℕ). end + x) (r .counted)) (r .cells)
+
+  pub written-wrote : {at k n end : ℕ} {d o : List ℕ} → WrittenTo F G s at k d n end o → Wrote F G s at k (end - n) d n o
+  written-wrote w = record { out = w .out; run = w .run; counted = omega (arith, w .counted); cells = w .cells }
+
+-- tests joined by OR that all failed
+pub neither-left : (x y : Bool) → (x || y) ≡ false → x ≡ false
+neither-left true y e = e
+neither-left false y e = refl
+
+pub neither-right : (x y : Bool) → (x || y) ≡ false → y ≡ false
+neither-right true y e = absurd (let z : _≡_ {A = ℕ} 0 1 = cc in omega arith)
+neither-right false y e = e
+
+pub and-false : (x y : Bool) → (x && y) ≡ false → x ≡ true → y ≡ false
+and-false true y e t = e
+and-false false y e t = absurd (let z : _≡_ {A = ℕ} 0 1 = cc in omega arith)
+
+-- units that are characters by themselves, in a text that comes to a result: their values are what is encoded
+module _
+    {F G : Form}
+    {s : List ℕ}
+    {at n m c : ℕ}
+    (a : Convertible F G s at n m)
+    (inside : at + c ≤ length s)
+    (next : (k : ℕ) → k < c → Run F G s at k (encodeAll G (part s at k)) → CharacterAt F s (at + k) (getD s (at + k) 0) (span (at + k) 1)) where
+  single-held : (k : ℕ) → k < c → Run F G s at k (encodeAll G (part s at k)) → encode G (getD s (at + k) 0) ≢ []
+  single-held k h r = convertible-character (convertible-run a r .1) (next k h r)
+
+  pub singles-run : (k : ℕ) → k ≤ c → Run F G s at k (encodeAll G (part s at k))
+  singles-run zero h = run-none (omega arith)
+  singles-run (suc k) h =
+      let r = singles-run k (omega arith) in
+      let one = run-one (next k (omega arith) r) (single-held k (omega arith) r) in
+      let e : encodeAll G (part s (at + k) 1) ≡ encode G (getD s (at + k) 0) = ap (encodeAll G) (part-one s (at + k) (omega arith)) ∙ encode-all-one G (getD s (at + k) 0) in
+      rw (← add-one k, encode-all-join G s at k 1, e) (run-join r one)
+
+  pub singles-encodable : Encodable G s at c
+  singles-encodable = record { inside = inside; each = λ j b. single-held j b (singles-run j (omega arith)) }
+
+  pub singles-room : Room G s at c n m
+  singles-room = record { fits = convertible-run a (singles-run c (omega arith)) .0 }
+
+-- values that are their own encodings
+pub own-encodings : (G : Form) (s : List ℕ) (at k : ℕ) → at + k ≤ length s → ((j : ℕ) → j < k → encode G (getD s (at + j) 0) ≡ getD s (at + j) 0 ∷ []) → encodeAll G (part s at k) ≡ part s at k
+own-encodings G s at zero h f = refl
+own-encodings G s at (suc k) h f =
+    let e : encodeAll G (part s (at + k) 1) ≡ part s (at + k) 1 =
+    ap (encodeAll G) (part-one s (at + k) (omega arith)) ∙ encode-all-one G (getD s (at + k) 0) ∙ f k (omega arith) ∙ sym (part-one s (at + k) (omega arith)) in
+    rw (← add-one k, encode-all-join G s at k 1, part-join s at k 1, e, own-encodings G s at k (omega arith) (λ j b. f j (omega arith)))
+
+pub part-length : (s : List ℕ) (at k : ℕ) → at + k ≤ length s → length (part s at k) ≡ k
+part-length s at k h = length-take-le k (drop at s) (rw (length-drop at s) (omega arith))
+
+-- a loop that copies k units of a text into a buffer
+pub record CopiedTo (s : List ℕ) (at k : ℕ) (d : List ℕ) (n : ℕ) (o : List ℕ) : Type 0 where
+  pub cells : o ≡ paste d n (drop at s) k
+
+module _ {s : List ℕ} {at n : ℕ} {d : List ℕ} where
+  pub copied-none : CopiedTo s at 0 d n d
+  copied-none = record { cells = copy-begin d n (drop at s) }
+
+  module _ {c k : ℕ} {o : List ℕ} (inside : at + c ≤ length s) (room : n + c ≤ length d) (w : CopiedTo s at k d n o) where
+    pub copied-length : k ≤ c → length o ≡ length d
+    copied-length h = copy-length d n (drop at s) k o (w .cells) (omega arith) (rw (length-drop at s) (omega arith))
+
+    pub copied-more : (x : ℕ) → x ≡ getD s (at + k) 0 → k < c → CopiedTo s at (k + 1) d n (set o (n + k) x)
+    copied-more x e h =
+        record { cells = rw (e, ← getD-drop at s k 0) (copy-more d n (drop at s) k o (w .cells) (omega arith) (rw (length-drop at s) (omega arith))) }
+
+    pub copied-all : k ≤ c → c ≤ k → o ≡ withUnits d n (part s at c)
+    copied-all h l = w .cells ∙ copy-end d n (drop at s) c k (omega arith) (rw (length-drop at s) (omega arith))
+
+-- it ends within the buffer
+pub written-within :
+    {F G : Form} {s : List ℕ} {at k n end : ℕ} {d o : List ℕ} → Convertible F G s at n (length d) → WrittenTo F G s at k d n end o → (n ≤ end) × (end ≤ length d)
+written-within c w = (omega (arith, w .counted), omega (arith, w .counted, convertible-run c (w .run) .0))
