@@ -3,3 +3,4 @@ pub mod Lengths
 pub mod Backward
 pub mod Targets
 pub mod UtfEbcdic
+pub mod FssUtf

@@ -27,3 +27,4 @@ pub mod Starts
 pub mod Runs
 pub mod ReadUnits
 pub mod Blocks
+pub mod Values

@@ -15,6 +15,13 @@ pub fn measure(target: Target, src: &[u32]) -> Conversion
     let mut at: usize = 0;
     let mut units: usize = 0;
     while at < src.len() {
+        let run = ucs4_runs::count::count(target, src, at);
+        let passed = run.length;
+        if passed != 0 {
+            at += passed;
+            units += run.units;
+            continue;
+        }
         let item = items::ucs4::item_at(src, at);
         let Item::Character(value, span) = item else {
             return Conversion::Refused(answers::refusal(item));

@@ -15,6 +15,13 @@ pub fn measure(target: Target, src: &[u16]) -> Conversion
     let mut at: usize = 0;
     let mut units: usize = 0;
     while at < src.len() {
+        let run = utf16_runs::count::count(target, src, at);
+        let passed = run.length;
+        if passed != 0 {
+            at += passed;
+            units += run.units;
+            continue;
+        }
         let item = items::utf16::item_at(src, at);
         let Item::Character(value, span) = item else {
             return Conversion::Refused(answers::refusal(item));

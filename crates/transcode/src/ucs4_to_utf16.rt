@@ -18,6 +18,13 @@ pub fn convert(src: &[u32], dst: &mut [u16]) -> Conversion
     let mut at: usize = 0;
     let mut written: usize = 0;
     while at < src.len() {
+        let run = ucs4_runs::to_utf16::write(src, at, dst, written);
+        let passed = run.length;
+        if passed != 0 {
+            at += passed;
+            written += run.units;
+            continue;
+        }
         let item = items::ucs4::item_at(src, at);
         let Item::Character(value, span) = item else {
             return Conversion::Refused(answers::refusal(item));

@@ -1,0 +1,4 @@
+pub mod Tests
+pub mod Pairs
+pub mod Counting
+pub mod Singles
