@@ -7,12 +7,15 @@ use mathlib.Core.List.{List, [], _∷_, _++_, append-assoc, append-nil}
 use native.Mathlib.Omega.{arith}
 use native.Mathlib.Nat.{le-trans, add-zero, add-assoc}
 use native.Mathlib.Numerals.{add-one}
+use lib.Dec.{leb}
 use lib.Bits.{bitOr, or-add-and, and-le-l, and-le-r}
 use lib.ListN.{length, getD, set, take, drop, length-append, length-drop, take-append-drop}
 use lib.Seq.{length-take-le, take-at, drop-at, drop-drop, drop-cons, take-add, set-split, getD-drop, paste}
+use borrow.Author.Tests.{leb-true}
 use borrow.Author.Count.{below-none, below-more}
 use Rattle.forms.specs.Form.{Form, encode, encodeAll, span}
 use Rattle.forms.specs.Buffer.{withUnits}
+use Rattle.laws.proofs.Table.{and-left, and-right}
 use Rattle.laws.proofs.Buffers.{with-none, with-one, with-join, length-with, copy-begin, copy-more, copy-length, copy-end}
 use Rattle.laws.proofs.Progress.{CharacterAt}
 use Rattle.laws.proofs.Runs.{Run, Wrote, Convertible, run-none, run-one, run-join, convertible-run, convertible-character, sum, sum-zero, sum-more}
@@ -20,6 +23,10 @@ use Rattle.laws.proofs.Runs.{Run, Wrote, Convertible, run-none, run-one
 -- the n units from `at` on are at most m
 pub record AtMost (s : List ℕ) (at n m : ℕ) : Type 0 where
   pub each : (k : ℕ) → k < n → getD s (at + k) 0 ≤ m
+
+-- or at least m
+pub record AtLeast (s : List ℕ) (at n m : ℕ) : Type 0 where
+  pub each : (k : ℕ) → k < n → m ≤ getD s (at + k) 0
 
 pub at-most-none : {s : List ℕ} {at m : ℕ} → AtMost s at 0 m
 at-most-none {s} {at} {m} = record { each = below-none (λ (k : ℕ). getD s (at + k) 0 ≤ m) }
@@ -286,3 +293,18 @@ module _ {s : List ℕ} {at n : ℕ} {d : List ℕ} where
 pub written-within :
     {F G : Form} {s : List ℕ} {at k n end : ℕ} {d o : List ℕ} → Convertible F G s at n (length d) → WrittenTo F G s at k d n end o → (n ≤ end) × (end ≤ length d)
 written-within c w = (omega (arith, w .counted), omega (arith, w .counted, convertible-run c (w .run) .0))
+
+-- a loop that tests whether all units reach a bound
+pub record ReachIf (all : Bool) (s : List ℕ) (at k m : ℕ) : Type 0 where
+  pub each : all ≡ true → (j : ℕ) → j < k → m ≤ getD s (at + j) 0
+
+pub reach-none : {all : Bool} {s : List ℕ} {at m : ℕ} → ReachIf all s at 0 m
+reach-none {all} {s} {at} {m} = record { each = λ e. below-none (λ (j : ℕ). m ≤ getD s (at + j) 0) }
+
+pub reach-more : {all : Bool} {s : List ℕ} {at k m : ℕ} → ReachIf all s at k m → ReachIf (all && leb m (getD s (at + k) 0)) s at (k + 1) m
+reach-more {all} {s} {at} {k} {m} r =
+    let t = leb m (getD s (at + k) 0) in
+    record { each = λ e. below-more (λ (j : ℕ). m ≤ getD s (at + j) 0) k (r .each (and-left all t e)) (leb-true m (getD s (at + k) 0) (and-right all t e)) }
+
+pub reach-end : {all : Bool} {s : List ℕ} {at k c m : ℕ} → ReachIf all s at k m → c ≤ k → all ≡ true → AtLeast s at c m
+reach-end r h e = record { each = λ j b. r .each e j (omega arith) }

@@ -16,7 +16,7 @@ use Rattle.forms.specs.Form.{Form, encode, span}
 use Rattle.forms.specs.Forms.{ucs4, utf16}
 use Rattle.forms.specs.Layout.{lowestOf}
 use Rattle.laws.proofs.Runs.{Counted, sum, sum-zero, sum-more, Next, between}
-use Rattle.laws.proofs.Values.{AtMost, sum-same, sum-plus, sum-ones, sum-none}
+use Rattle.laws.proofs.Values.{AtMost, neither-left, neither-right, and-false, sum-same, sum-plus, sum-ones, sum-none}
 use Rattle.tables.specs.ByteForms.{byteForm, layoutOf}
 use Rattle.tables.specs.declared.ByteForm.{ByteForm}
 use Rattle.tables.specs.declared.ByteForm.the-variants.{FssUtf, UtfEbcdic}
@@ -212,18 +212,6 @@ held-length v h = go (decLt v 0xD800) (decLt v 0x10000)
         above (no c) = omega arith
     go (no a) (no b) = ap length (pair v (omega arith) (h .below)) ∙ rw (le-leb 0x10000 v (omega arith))
 
-or-left : (x y : Bool) → (x || y) ≡ false → x ≡ false
-or-left true y e = e
-or-left false y e = refl
-
-or-right : (x y : Bool) → (x || y) ≡ false → y ≡ false
-or-right true y e = absurd (let z : _≡_ {A = ℕ} 0 1 = cc in omega arith)
-or-right false y e = e
-
-and-false : (x y : Bool) → (x && y) ≡ false → x ≡ true → y ≡ false
-and-false true y e t = e
-and-false false y e t = absurd (let z : _≡_ {A = ℕ} 0 1 = cc in omega arith)
-
 -- what the test says of a unit
 held-test : (v : ℕ) → (leb 0xD800 v && ltb v 0xE000) ≡ false → leb 0x110000 v ≡ false → Held v
 held-test v e g =
@@ -248,8 +236,8 @@ clean-more {s} {at} {k} {bad} c =
     record {
       each =
           λ e.
-          let f = or-left (bad || gap) (leb 0x110000 v) e in
-          below-more (λ (j : ℕ). Held (getD s (at + j) 0)) k (c .each (or-left bad gap f)) (held-test v (or-right bad gap f) (or-right (bad || gap) (leb 0x110000 v) e));
+          let f = neither-left (bad || gap) (leb 0x110000 v) e in
+          below-more (λ (j : ℕ). Held (getD s (at + j) 0)) k (c .each (neither-left bad gap f)) (held-test v (neither-right bad gap f) (neither-right (bad || gap) (leb 0x110000 v) e));
     }
 
 pub units-most : (s : List ℕ) (i : ℕ) → unitsAt s i ≤ 2

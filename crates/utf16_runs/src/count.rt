@@ -23,7 +23,7 @@ fn wide(count: u16) -> usize
 
 // The bytes of FSS-UTF: two for each unit of a pair. The count is as wide as a unit: vector code wants that.
 fn bytes(src: &[u16], at: usize, count: usize) -> u16
-    requires { ⌜ (count ≤ 32) × (at + count ≤ length (now src)) ⌝ }
+    requires { ⌜ (count ≤ 128) × (at + count ≤ length (now src)) ⌝ }
     ensures { λ r. ⌜ r ≡ sum (bytesAt (now (src .entry))) at count ⌝ }
 {
     let mut sum: u16 = 0;
@@ -39,7 +39,7 @@ fn bytes(src: &[u16], at: usize, count: usize) -> u16
 
 // The values: a low unit counts for none.
 fn values(src: &[u16], at: usize, count: usize) -> u16
-    requires { ⌜ (count ≤ 32) × (at + count ≤ length (now src)) ⌝ }
+    requires { ⌜ (count ≤ 128) × (at + count ≤ length (now src)) ⌝ }
     ensures { λ r. ⌜ r ≡ sum (valuesAt (now (src .entry))) at count ⌝ }
 {
     let mut sum: u16 = 0;
@@ -64,7 +64,7 @@ fn plain(target: Target) -> u16
 
 // Whole characters. For UTF-EBCDIC they are counted one by one, and UTF-16 is no target.
 fn whole(target: Target, src: &[u16], at: usize, count: usize) -> Run
-    requires { ⌜ (count ≤ 32) × (Whole (now src) at count) ⌝ }
+    requires { ⌜ (count ≤ 128) × (Whole (now src) at count) ⌝ }
     ensures { λ r. ⌜ Counted utf16 (targetForm target) (now (src .entry)) at (r .length) (r .units) ⌝ }
 {
     match target {
@@ -89,7 +89,7 @@ fn whole(target: Target, src: &[u16], at: usize, count: usize) -> Run
 
 // A block, of which so many neighbours are looked at: nothing where one is unpaired. A high unit at its end is left for the next block.
 fn block(target: Target, src: &[u16], at: usize, count: usize, pairs: usize) -> Run
-    requires { ⌜ (0 < count) × (count ≤ 32) × (count ≤ pairs + 1) × (at + count ≤ length (now src)) × (at + pairs < length (now src)) ⌝ }
+    requires { ⌜ (0 < count) × (count ≤ 128) × (count ≤ pairs + 1) × (at + count ≤ length (now src)) × (at + pairs < length (now src)) ⌝ }
     ensures { λ r. ⌜ Counted utf16 (targetForm target) (now (src .entry)) at (r .length) (r .units) ⌝ }
 {
     if crate::blocks::joined(src, at, count) < plain(target) {
@@ -124,8 +124,8 @@ pub fn count(target: Target, src: &[u16], at: usize) -> Run
 {
     let mut length: usize = 0;
     let mut units: usize = 0;
-    while 32 < src.len() - at - length {
-        let run = block(target, src, at + length, 32, 32);
+    while 128 < src.len() - at - length {
+        let run = block(target, src, at + length, 128, 128);
         let passed = run.length;
         if passed == 0 {
             return Run {

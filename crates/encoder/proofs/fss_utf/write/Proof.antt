@@ -6,8 +6,8 @@ use lib.ListN.{length, length-set}
 use denote.Ref.{now}
 use Rattle.forms.specs.Form.{encode}
 use Rattle.forms.specs.Forms.{fssUtf}
-use Rattle.encoder.proofs.FssUtf.{one-byte, two-bytes, three-bytes, four-bytes}
-use Rattle.encoder.proofs.WholeUnits.{put-one, put-two, put-three, put-four}
+use Rattle.encoder.proofs.FssUtf.{one-byte, two-bytes, four-bytes}
+use Rattle.encoder.proofs.WholeUnits.{put-one, put-two, put-four}
 use borrow.Author.Needs.{needs}
 use Rattle.encoder.proofs.fss_utf.write.Statement.{statement}
 use Rattle.encoder.proofs.fss_utf.write.Tie as tie
@@ -17,9 +17,6 @@ one c = one-byte (c .before .before .args .value) (c .if1 .taken)
 
 two : (c : tie.Then2) → let v = c .before .before .before .args .value in encode fssUtf v ≡ (0xC0 + v / 64) ∷ (0x80 + v % 64) ∷ []
 two c = two-bytes (c .before .before .before .args .value) (c .before .if1 .left) (c .if2 .taken)
-
-three : (c : tie.Then3) → let v = c .before .before .before .before .args .value in encode fssUtf v ≡ (0xE0 + v / 4096) ∷ (0x80 + v / 64 % 64) ∷ (0x80 + v % 64) ∷ []
-three c = three-bytes (c .before .before .before .before .args .value) (c .before .if2 .left) (c .if3 .taken)
 
 four : (c : tie.Then4) → let v = c .before .before .before .before .before .args .value in encode fssUtf v ≡ (0xF0 + v / 262144) ∷ (0x80 + v / 4096 % 64) ∷ (0x80 + v / 64 % 64) ∷ (0x80 + v % 64) ∷ []
 four c = four-bytes (c .before .before .before .before .before .args .value) (c .before .if3 .left) (c .if4 .taken)
@@ -75,6 +72,15 @@ returns-2 c =
     let v = a .value in
     (ap (λ (e : List ℕ). a .at + length e) (sym (two c)), put-two (now (a .dst)) (a .at) (0xC0 + v / 64) (0x80 + v % 64) (encode fssUtf v) (two c) (c .before .before .before .pre .1))
 
+three-requires : tie.Need-three-requires
+three-requires c κs = search needs
+
+same-length-3 : tie.Need-same-length-3
+same-length-3 c = search needs
+
+returns-3 : tie.Need-returns-3
+returns-3 c = search needs
+
 add-dst-4 : tie.Need-add-dst-4
 add-dst-4 c = search needs
 
@@ -82,7 +88,7 @@ cast-dst-4 : tie.Need-cast-dst-4
 cast-dst-4 c = search needs
 
 slice-write-dst-4 : tie.Need-slice-write-dst-4
-slice-write-dst-4 c = omega (arith, ap length (three c), c .before .before .before .before .pre .1)
+slice-write-dst-4 c = omega (arith, ap length (four c), c .before .before .before .before .before .pre .1)
 
 add-dst-5 : tie.Need-add-dst-5
 add-dst-5 c = search needs
@@ -94,7 +100,7 @@ add-dst-6 : tie.Need-add-dst-6
 add-dst-6 c = search needs
 
 slice-write-dst-5 : tie.Need-slice-write-dst-5
-slice-write-dst-5 c = simp length-set (omega (arith, ap length (three c), c .before .before .before .before .pre .1))
+slice-write-dst-5 c = simp length-set (omega (arith, ap length (four c), c .before .before .before .before .before .pre .1))
 
 add-dst-7 : tie.Need-add-dst-7
 add-dst-7 c = search needs
@@ -106,19 +112,7 @@ add-dst-8 : tie.Need-add-dst-8
 add-dst-8 c = search needs
 
 slice-write-dst-6 : tie.Need-slice-write-dst-6
-slice-write-dst-6 c = simp length-set (omega (arith, ap length (three c), c .before .before .before .before .pre .1))
-
-add-result-3 : tie.Need-add-result-3
-add-result-3 c = search needs
-
-same-length-3 : tie.Need-same-length-3
-same-length-3 c = search needs
-
-returns-3 : tie.Need-returns-3
-returns-3 c =
-    let a = c .before .before .before .before .args in
-    let v = a .value in
-    (ap (λ (e : List ℕ). a .at + length e) (sym (three c)), put-three (now (a .dst)) (a .at) (0xE0 + v / 4096) (0x80 + v / 64 % 64) (0x80 + v % 64) (encode fssUtf v) (three c) (c .before .before .before .before .pre .1))
+slice-write-dst-6 c = simp length-set (omega (arith, ap length (four c), c .before .before .before .before .before .pre .1))
 
 add-dst-9 : tie.Need-add-dst-9
 add-dst-9 c = search needs
@@ -126,47 +120,14 @@ add-dst-9 c = search needs
 cast-dst-7 : tie.Need-cast-dst-7
 cast-dst-7 c = search needs
 
-slice-write-dst-7 : tie.Need-slice-write-dst-7
-slice-write-dst-7 c = omega (arith, ap length (four c), c .before .before .before .before .before .pre .1)
-
 add-dst-10 : tie.Need-add-dst-10
 add-dst-10 c = search needs
 
-cast-dst-8 : tie.Need-cast-dst-8
-cast-dst-8 c = search needs
+slice-write-dst-7 : tie.Need-slice-write-dst-7
+slice-write-dst-7 c = simp length-set (omega (arith, ap length (four c), c .before .before .before .before .before .pre .1))
 
-add-dst-11 : tie.Need-add-dst-11
-add-dst-11 c = search needs
-
-slice-write-dst-8 : tie.Need-slice-write-dst-8
-slice-write-dst-8 c = simp length-set (omega (arith, ap length (four c), c .before .before .before .before .before .pre .1))
-
-add-dst-12 : tie.Need-add-dst-12
-add-dst-12 c = search needs
-
-cast-dst-9 : tie.Need-cast-dst-9
-cast-dst-9 c = search needs
-
-add-dst-13 : tie.Need-add-dst-13
-add-dst-13 c = search needs
-
-slice-write-dst-9 : tie.Need-slice-write-dst-9
-slice-write-dst-9 c = simp length-set (omega (arith, ap length (four c), c .before .before .before .before .before .pre .1))
-
-add-dst-14 : tie.Need-add-dst-14
-add-dst-14 c = search needs
-
-cast-dst-10 : tie.Need-cast-dst-10
-cast-dst-10 c = search needs
-
-add-dst-15 : tie.Need-add-dst-15
-add-dst-15 c = search needs
-
-slice-write-dst-10 : tie.Need-slice-write-dst-10
-slice-write-dst-10 c = simp length-set (omega (arith, ap length (four c), c .before .before .before .before .before .pre .1))
-
-add-result-4 : tie.Need-add-result-4
-add-result-4 c = search needs
+add-result-3 : tie.Need-add-result-3
+add-result-3 c = search needs
 
 same-length-4 : tie.Need-same-length-4
 same-length-4 c = search needs
@@ -205,6 +166,9 @@ write-spec =
     add-result-2
     same-length-2
     returns-2
+    three-requires
+    same-length-3
+    returns-3
     add-dst-4
     cast-dst-4
     slice-write-dst-4
@@ -216,25 +180,11 @@ write-spec =
     cast-dst-6
     add-dst-8
     slice-write-dst-6
-    add-result-3
-    same-length-3
-    returns-3
     add-dst-9
     cast-dst-7
-    slice-write-dst-7
     add-dst-10
-    cast-dst-8
-    add-dst-11
-    slice-write-dst-8
-    add-dst-12
-    cast-dst-9
-    add-dst-13
-    slice-write-dst-9
-    add-dst-14
-    cast-dst-10
-    add-dst-15
-    slice-write-dst-10
-    add-result-4
+    slice-write-dst-7
+    add-result-3
     same-length-4
     returns-4
     write-requires

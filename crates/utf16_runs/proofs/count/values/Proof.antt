@@ -16,7 +16,7 @@ Inv-loop src at count sum₀ k₀ sum k = (k ≤ count) × (sum ≡ total (value
 abbrev μ-loop : tie.MeasureT-loop
 μ-loop src at count sum₀ k₀ sum k = count - k
 
-most : (c : tie.After-shared-slice-known2 Inv-loop μ-loop) → c .before .before .loop .sum ≤ 32
+most : (c : tie.After-shared-slice-known2 Inv-loop μ-loop) → c .before .before .loop .sum ≤ 128
 most c =
     let l = c .before .before in
     let a = l .before .before .args in
