@@ -5,9 +5,8 @@ use mathlib.Core.List.{List, [], _∷_}
 use native.Mathlib.Omega.{arith}
 use lib.ListN.{length, getD, drop}
 use lib.Bits.{bitOr, or-add-and, and-le-l, and-le-r}
-use Rattle.forms.specs.Form.{Form, span}
+use Rattle.forms.specs.Form.{Form}
 use Rattle.forms.specs.Forms.{byteLayout, fssUtf, utf16}
-use Rattle.laws.proofs.Progress.{CharacterAt}
 use Rattle.laws.proofs.ReadUnits.{behind-one, behind-two, behind-three, read-units}
 use Rattle.items.proofs.WholeUnits.{utf16-below, utf16-above, utf16-pair}
 use Rattle.tables.specs.declared.ByteForm.the-variants.{FssUtf}

@@ -7,18 +7,15 @@ use native.Mathlib.Omega.{arith}
 use native.Mathlib.Nat.{add-zero}
 use borrow.Author.Tests.{leb-true, leb-false, le-leb}
 use lib.Dec.{leb}
-use lib.ListN.{length, drop, take, set, length-append, length-map, length-set}
-use lib.Seq.{take-at, drop-at, drop-drop}
+use lib.ListN.{length, drop, set, length-append, length-map, length-set}
 use Rattle.types.specs.declared.Fault.the-variants.{SourceTooLong, BufferTooShort}
 use Rattle.types.specs.declared.Span.{Span}
 use Rattle.types.specs.declared.Item.{Item}
-use Rattle.types.specs.declared.Item.the-variants.{Character, Mark}
 use Rattle.types.specs.declared.Refusal.{Refusal}
-use Rattle.types.specs.declared.Counts.{Counts}
 use Rattle.types.specs.declared.Decoding.the-variants.{Decoded, Refused}
 use Rattle.forms.specs.Fault.{limit, refusal}
 use Rattle.forms.specs.Buffer.{withUnits}
-use Rattle.forms.specs.Form.{Form, spanOf, items}
+use Rattle.forms.specs.Form.{Form, items}
 use Rattle.forms.specs.Lossy.{valueOf, offsetOf, markCount, marks, Outcome, decoded, refused, lossy, counts, answerOf, valuesIn, startsIn}
 use Rattle.lossy.specs.Demand3.{DecodesLossy}
 use Rattle.laws.proofs.FormLaws.{Laws}

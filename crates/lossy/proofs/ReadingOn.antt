@@ -1,9 +1,9 @@
 -- Items read in one step: how steps are made of items and of blocks, and put together.
 use Prim.Native.Nat.{ℕ, zero, suc, _+_, _≤_, _<_}
 use mathlib.Core.Path.{_≡_, refl, sym, ap, _∙_}
-use mathlib.Core.List.{List, [], _∷_, _++_, map, map-append, append-assoc, append-nil}
+use mathlib.Core.List.{List, [], _∷_, _++_, map, map-append, append-assoc}
 use native.Mathlib.Omega.{arith}
-use native.Mathlib.Nat.{add-zero, zero-add, add-suc}
+use native.Mathlib.Nat.{add-zero}
 use native.Mathlib.Numerals.{add-one}
 use lib.ListN.{length, getD, take, drop, set, length-append, length-map, length-set, take-append-drop}
 use lib.Seq.{drop-cons, set-at, append-snoc, length-take-le, take-all, take-suc-set, paste}
@@ -14,7 +14,7 @@ use Rattle.forms.specs.Form.{Form, size, span, spanOf}
 use Rattle.forms.specs.Buffer.{withUnits}
 use Rattle.forms.specs.Lossy.{valueOf, offsetOf, markCount, marks}
 use Rattle.laws.proofs.Items.{itemsOnward, sequenceAt, items-step, length-at}
-use Rattle.laws.proofs.ReadItems.{ItemAt, item-onward, item-offset}
+use Rattle.laws.proofs.ReadItems.{ItemAt, item-onward}
 use Rattle.laws.proofs.Progress.{CharacterAt}
 use Rattle.laws.proofs.Buffers.{copy-begin, copy-more, copy-end, length-with}
 use Rattle.lossy.specs.ReadOn.{Room, Between, ReadOn, offsetsFrom}

@@ -1,5 +1,5 @@
 -- Characters of one code unit of UTF-16 and UCS-4, by the tests that the blocks of a lossy decoding make.
-use Prim.Native.Nat.{ℕ, _≤_, _<_}
+use Prim.Native.Nat.{ℕ, _<_}
 use mathlib.Core.Path.{_≡_, refl, sym, _∙_}
 use mathlib.Core.Bool.{Bool, true, false, _&&_, _||_}
 use mathlib.Core.List.{List}

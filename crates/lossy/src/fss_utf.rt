@@ -11,7 +11,7 @@ fn wide(byte: u8) -> u32
     byte as u32
 }
 
-// A block of characters of one byte, where it is one.
+// A block of characters of one byte, where it is one. It is copied here: by a function of its own the copy is not vectorised.
 fn block_at(text: &[u8], at: usize, values: &mut [u32], starts: &mut [u32], items: usize) -> Read
     requires { ⌜ Room fssUtf (now text) at items (length (now values)) (length (now starts)) ⌝ }
     ensures { λ r. ⌜ ReadOn fssUtf (now (text .entry)) at (r .at) (now (values .entry)) (now (starts .entry)) items (r .items) (now (values .exit)) (now (starts .exit)) ⌝ }

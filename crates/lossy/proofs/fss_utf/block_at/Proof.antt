@@ -2,7 +2,6 @@ use Prim.Native.Nat.{_-_, _<_}
 use mathlib.Core.Path.{refl}
 use native.Mathlib.Omega.{arith}
 use borrow.Author.Needs.{needs}
-use lib.ListN.{length}
 use denote.Ref.{now}
 use Rattle.forms.specs.Forms.{fssUtf}
 use Rattle.characters.proofs.Shorts.{or-left, or-right, one-byte}

@@ -1,8 +1,6 @@
 use Prim.Native.Nat.{_-_}
-use mathlib.Core.Path.{_≡_, refl, sym}
-use native.Mathlib.Omega.{arith}
+use mathlib.Core.Path.{sym}
 use borrow.Author.Needs.{needs}
-use lib.ListN.{length}
 use Rattle.lossy.specs.ReadOn.{offsetsFrom}
 use Rattle.lossy.proofs.ReadingOn.{Copied, copied-none, copied-more, copied-all, offsets-at, offsets-length}
 use Rattle.lossy.proofs.steps.put_offsets.Statement.{statement}

@@ -4,7 +4,6 @@ use mathlib.Core.Bool.{false, _&&_}
 use native.Mathlib.Omega.{arith}
 use borrow.Author.Needs.{needs}
 use lib.Dec.{leb, ltb}
-use lib.ListN.{length}
 use denote.Ref.{now}
 use Rattle.forms.specs.Forms.{utf16}
 use Rattle.lossy.proofs.Units.{or-false-left, or-false-right, lone-unit}
