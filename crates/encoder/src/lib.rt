@@ -4,8 +4,8 @@ pub mod bytes;
 pub mod fss_utf;
 pub mod ucs4;
 pub mod utf16;
-pub mod utf_ebcdic;
 pub mod utf16_values;
+pub mod utf_ebcdic;
 pub mod values;
 
 use tables::ByteForm;
