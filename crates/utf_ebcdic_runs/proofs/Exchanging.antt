@@ -1,13 +1,12 @@
 -- Bytes of UTF-EBCDIC that stand for I8 bytes below A0: characters by themselves.
-use Prim.Native.Nat.{ℕ, _+_, _-_, _/_, _≤_, _<_}
-use mathlib.Core.Path.{_≡_, refl, sym, ap, _∙_}
+use Prim.Native.Nat.{ℕ, _+_, _≤_, _<_}
+use mathlib.Core.Path.{_≡_, refl, sym, _∙_}
 use mathlib.Core.List.{List, [], _∷_, map}
 use native.Mathlib.Omega.{arith}
 use lib.ListN.{length, getD}
-use borrow.Author.Tests.{le-ltb, lt-ltb}
 use Rattle.forms.specs.Form.{Form, span, encode}
 use Rattle.forms.specs.Exchange.{i8Of}
-use Rattle.forms.specs.Forms.{fssUtf, utfEbcdic}
+use Rattle.forms.specs.Forms.{utfEbcdic}
 use Rattle.laws.proofs.Blocks.{AtMost, Held, Copied}
 use Rattle.laws.proofs.Progress.{CharacterAt}
 use Rattle.laws.proofs.Runs.{Run, run-one, Counted, counted-units, Wrote, wrote-block}
@@ -50,8 +49,3 @@ ascii-wrote {G} {s} {b} {d} {o} {at} {n} {i} {k} {m} {c} e h a l w f y g =
     let v : i8Of (getD s (at + j) 0) < 0x80 = omega (arith, a .all .each j (omega arith), exchanged-at s (at + j)) in
     ascii-run (omega arith) v (e (i8Of (getD s (at + j) 0)) v) (w .each j (omega arith)))
     y g
-
-pub fss-utf-byte : (v : ℕ) → v < 0x80 → encode fssUtf v ≡ v ∷ []
-fss-utf-byte v h =
-    let a : 0 + (v - 0) / 1 ≡ v = omega arith in
-    rw (le-ltb 0x7FFFFFFF v (omega arith), lt-ltb v 0x80 h) (ap {B = List ℕ} (λ (x : ℕ). x ∷ []) a)

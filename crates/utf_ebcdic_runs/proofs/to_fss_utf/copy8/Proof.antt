@@ -5,7 +5,8 @@ use denote.Ref.{now}
 use Rattle.forms.specs.Exchange.{i8Of}
 use Rattle.laws.proofs.Blocks.{AtMost, at-most-none, at-most-or, Held, held-none, held-more, Copied, copied-none, copied-more}
 use Rattle.laws.proofs.Runs.{wrote-none}
-use Rattle.utf_ebcdic_runs.proofs.Exchanging.{exchanged-at, ascii-wrote, fss-utf-byte}
+use Rattle.utf_ebcdic_runs.proofs.Exchanging.{exchanged-at, ascii-wrote}
+use Rattle.encoder.proofs.FssUtf.{one-byte}
 use borrow.Author.Needs.{needs}
 use native.Mathlib.Omega.{arith}
 use Rattle.utf_ebcdic_runs.proofs.to_fss_utf.copy8.Statement.{statement}
@@ -76,7 +77,7 @@ same-length : tie.Need-same-length Inv-loop μ-loop Inv-loop2 μ-loop2
 same-length c = c .before .loop2 .inv .same
 
 returns-2 : tie.Need-returns-2 Inv-loop μ-loop Inv-loop2 μ-loop2
-returns-2 c = let l = c .before .before .before .before .loop .inv in (omega arith, ascii-wrote fss-utf-byte (c .before .before .before .before .before .before .before .pre .1) (l .1) (c .before .before .if1 .left) (l .2) (c .before .before .before .loop-test .left) (c .before .loop2 .inv) (c .loop2-test .left))
+returns-2 c = let l = c .before .before .before .before .loop .inv in (omega arith, ascii-wrote one-byte (c .before .before .before .before .before .before .before .pre .1) (l .1) (c .before .before .if1 .left) (l .2) (c .before .before .before .loop-test .left) (c .before .loop2 .inv) (c .loop2-test .left))
 
 pub copy8-spec : {M : Type 1} → statement M
 copy8-spec =
