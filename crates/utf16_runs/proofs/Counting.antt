@@ -11,7 +11,7 @@ use lib.Dec.{leb, ltb}
 use lib.ListN.{length, getD}
 use borrow.Author.Tests.{le-leb, lt-leb, le-ltb, lt-ltb}
 use Rattle.forms.specs.Form.{Form, encode, span}
-use Rattle.forms.specs.Forms.{utf16, fssUtf, ucs4}
+use Rattle.forms.specs.Forms.{utf16, fssUtf, utfEbcdic, ucs4}
 use Rattle.laws.proofs.Runs.{Counted, sum, sum-zero, sum-more, Next, between}
 use Rattle.laws.proofs.Values.{AtMost, sum-ones}
 use Rattle.tables.specs.declared.ByteForm.the-variants as Byte
@@ -22,7 +22,8 @@ use Rattle.encoder.specs.Target.{targetForm}
 use Rattle.encoder.proofs.Targets.{encode-seven}
 use Rattle.encoder.proofs.WholeUnits.{ucs4-encoding}
 use Rattle.encoder.proofs.FssUtf.{one-byte, two-bytes, three-bytes, four-bytes}
-use Rattle.utf16_runs.specs.Units.{isHigh, isLow, isSurrogate, number, Paired, Whole, bytesAt, valuesAt, plainOf}
+use Rattle.encoder.proofs.UtfEbcdic as ebcdic
+use Rattle.utf16_runs.specs.Units.{isHigh, isLow, isSurrogate, number, Paired, Whole, bytesAt, ebcdicAt, valuesAt, plainOf}
 use Rattle.utf16_runs.proofs.Tests.{high-bounds, low-bounds, high-false, low-false, low-not-high, below-not-high, below-not-low, differ}
 use Rattle.utf16_runs.proofs.Pairs.{alone, paired-at, pairValue}
 
@@ -144,6 +145,73 @@ counted-bytes s at k units w =
       rw (surrogate-two (getD s p 0) (x .0) (omega (arith, x .1)), surrogate-two (getD s (p + 1) 0) (omega (arith, y .0)) (y .1)),
       ap length (four-bytes (pairValue (getD s p 0) (getD s (p + 1) 0)) (omega arith) (omega (arith, x, y))),
     ))
+
+-- UTF-EBCDIC
+pub ebcdic-most : (s : List ℕ) (i : ℕ) → ebcdicAt s i ≤ 5
+ebcdic-most s i =
+    let u = getD s i 0 in
+    omega (
+      arith,
+      number-most (leb 0xA0 u),
+      number-most (leb 0x400 u && not (isSurrogate u)),
+      number-most (leb 0x4000 u && not (isSurrogate u)),
+      number-most (leb 0xD8C0 u && ltb u 0xDC00),
+    )
+
+abbrev ebcdicOf : ℕ → ℕ
+ebcdicOf u = 1 + number (leb 0xA0 u) + number (leb 0x400 u && not (isSurrogate u)) + number (leb 0x4000 u && not (isSurrogate u)) + number (leb 0xD8C0 u && ltb u 0xDC00)
+
+-- no high unit
+not-fifth : (u : ℕ) → (0xD800 ≤ u → 0xE000 ≤ u) → (leb 0xD8C0 u && ltb u 0xDC00) ≡ false
+not-fifth u o = go (decLt u 0xD8C0)
+  where
+    go : Dec (u < 0xD8C0) → (leb 0xD8C0 u && ltb u 0xDC00) ≡ false
+    go (yes h) = rw (lt-leb 0xD8C0 u h)
+    go (no h) = let e = o (omega arith) in rw (le-leb 0xD8C0 u (omega arith), le-ltb u 0xDC00 (omega arith))
+
+unit-ebcdic : (u : ℕ) → u < 0x10000 → (0xD800 ≤ u → 0xE000 ≤ u) → (n : ℕ) × (ebcdicOf u ≡ 1 + n) × (length (encode utfEbcdic u) ≡ 1 + n)
+unit-ebcdic u h o = go (decLt u 0xA0) (decLt u 0x400) (decLt u 0x4000)
+  where
+    go : Dec (u < 0xA0) → Dec (u < 0x400) → Dec (u < 0x4000) → (n : ℕ) × (ebcdicOf u ≡ 1 + n) × (length (encode utfEbcdic u) ≡ 1 + n)
+    go (yes a) b c = (0, rw (lt-leb 0xA0 u a, lt-leb 0x400 u (omega arith), lt-leb 0x4000 u (omega arith), not-fifth u o), ap length (ebcdic.one-byte u a))
+    go (no a) (yes b) c = (1, rw (le-leb 0xA0 u (omega arith), lt-leb 0x400 u b, lt-leb 0x4000 u (omega arith), not-fifth u o), ap length (ebcdic.two-bytes u (omega arith) b))
+    go (no a) (no b) (yes c) = (
+      2,
+      rw (le-leb 0xA0 u (omega arith), le-leb 0x400 u (omega arith), lt-leb 0x4000 u c, not-surrogate u o, not-fifth u o),
+      ap length (ebcdic.three-bytes u (omega arith) c),
+    )
+    go (no a) (no b) (no c) = (
+      3,
+      rw (le-leb 0xA0 u (omega arith), le-leb 0x400 u (omega arith), le-leb 0x4000 u (omega arith), not-surrogate u o, not-fifth u o),
+      ap length (ebcdic.four-bytes u (omega arith) (omega arith)),
+    )
+
+surrogate-ebcdic : (u : ℕ) → 0xD800 ≤ u → u < 0xE000 → ebcdicOf u ≡ 2 + number (leb 0xD8C0 u && ltb u 0xDC00)
+surrogate-ebcdic u h l = rw (le-leb 0xA0 u (omega arith), le-leb 0x400 u (omega arith), le-leb 0x4000 u (omega arith), le-leb 0xD800 u h, lt-ltb u 0xE000 l)
+
+low-ebcdic : (u : ℕ) → 0xDC00 ≤ u → u < 0xE000 → ebcdicOf u ≡ 2
+low-ebcdic u h l = surrogate-ebcdic u (omega arith) l ∙ rw (le-leb 0xD8C0 u (omega arith), le-ltb u 0xDC00 h)
+
+pair-ebcdic :
+    (x y : ℕ) → (0xD800 ≤ x) × (x < 0xDC00) → (0xDC00 ≤ y) × (y < 0xE000)
+    → (n : ℕ) × (ebcdicOf x + ebcdicOf y ≡ 1 + n) × (length (encode utfEbcdic (pairValue x y)) ≡ 1 + n)
+pair-ebcdic x y h l = go (decLt x 0xD8C0)
+  where
+    go : Dec (x < 0xD8C0) → (n : ℕ) × (ebcdicOf x + ebcdicOf y ≡ 1 + n) × (length (encode utfEbcdic (pairValue x y)) ≡ 1 + n)
+    go (yes a) = (
+      3,
+      rw (surrogate-ebcdic x (h .0) (omega (arith, h .1)), low-ebcdic y (l .0) (l .1), lt-leb 0xD8C0 x a),
+      ap length (ebcdic.four-bytes (pairValue x y) (omega arith) (omega (arith, h, l))),
+    )
+    go (no a) = (
+      4,
+      rw (surrogate-ebcdic x (h .0) (omega (arith, h .1)), low-ebcdic y (l .0) (l .1), le-leb 0xD8C0 x (omega arith), lt-ltb x 0xDC00 (h .1)),
+      encode-length Byte.UtfEbcdic (pairValue x y) (omega (arith, h, l)) 4 (omega arith) (omega (arith, h, l)) (omega (arith, h, l)),
+    )
+
+pub counted-ebcdic : (s : List ℕ) (at k : ℕ) → ((i : ℕ) → getD s i 0 < 0x10000) → Whole s at k → Counted utf16 utfEbcdic s at k (sum (ebcdicAt s) at k)
+counted-ebcdic s at k units w =
+    counted-whole UtfEbcdic s at k (ebcdicAt s) units w (λ p h l o. unit-ebcdic (getD s p 0) (units p) o) (λ p h l x y. pair-ebcdic (getD s p 0) (getD s (p + 1) 0) x y)
 
 -- UCS-4
 pub values-most : (s : List ℕ) (i : ℕ) → valuesAt s i ≤ 1

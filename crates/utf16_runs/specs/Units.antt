@@ -33,6 +33,12 @@ pub record NoSurrogates (s : List ℕ) (at k : ℕ) : Type 0 where
 abbrev pub bytesAt : List ℕ → ℕ → ℕ
 bytesAt s i = let u = getD s i 0 in 1 + number (leb 0x80 u) + number (leb 0x800 u) - number (isSurrogate u)
 
+-- the bytes of UTF-EBCDIC: two for each unit of a pair, and a fifth where the value is 40000 or more
+abbrev pub ebcdicAt : List ℕ → ℕ → ℕ
+ebcdicAt s i =
+    let u = getD s i 0 in
+    1 + number (leb 0xA0 u) + number (leb 0x400 u && not (isSurrogate u)) + number (leb 0x4000 u && not (isSurrogate u)) + number (leb 0xD8C0 u && ltb u 0xDC00)
+
 -- the values: none for a low unit
 abbrev pub valuesAt : List ℕ → ℕ → ℕ
 valuesAt s i = number (not (isLow (getD s i 0)))

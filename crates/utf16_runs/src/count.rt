@@ -7,7 +7,7 @@ ghost use lib.ListN.{length};
 ghost use Rattle.forms.specs.Forms.{utf16};
 ghost use Rattle.encoder.specs.Target.{targetForm};
 ghost use Rattle.laws.proofs.Runs.{Counted, sum};
-ghost use Rattle.utf16_runs.specs.Units.{number, bytesAt, valuesAt, plainOf, Whole};
+ghost use Rattle.utf16_runs.specs.Units.{number, bytesAt, ebcdicAt, valuesAt, plainOf, Whole};
 
 fn number(test: bool) -> u16
     ensures { λ r. ⌜ (r ≡ number test) × (r ≤ 1) ⌝ }
@@ -32,6 +32,26 @@ fn bytes(src: &[u16], at: usize, count: usize) -> u16
         let unit = src[at + k];
         sum += 1 + number(unit >= 0x80) + number(unit >= 0x800)
             - number(crate::blocks::surrogate(unit));
+        k += 1;
+    }
+    sum
+}
+
+// The bytes of UTF-EBCDIC: two for each unit of a pair, and a fifth where the value is 40000 or more.
+fn ebcdic_bytes(src: &[u16], at: usize, count: usize) -> u16
+    requires { ⌜ (count ≤ 128) × (at + count ≤ length (now src)) ⌝ }
+    ensures { λ r. ⌜ r ≡ sum (ebcdicAt (now (src .entry))) at count ⌝ }
+{
+    let mut sum: u16 = 0;
+    let mut k: usize = 0;
+    while k < count {
+        let unit = src[at + k];
+        let whole = !crate::blocks::surrogate(unit);
+        sum += 1
+            + number(unit >= 0xA0)
+            + number((unit >= 0x400) & whole)
+            + number((unit >= 0x4000) & whole)
+            + number((unit >= 0xD8C0) & (unit < 0xDC00));
         k += 1;
     }
     sum
@@ -62,7 +82,7 @@ fn plain(target: Target) -> u16
     }
 }
 
-// Whole characters. For UTF-EBCDIC they are counted one by one, and UTF-16 is no target.
+// Whole characters. UTF-16 is no target.
 fn whole(target: Target, src: &[u16], at: usize, count: usize) -> Run
     requires { ⌜ (count ≤ 128) × (Whole (now src) at count) ⌝ }
     ensures { λ r. ⌜ Counted utf16 (targetForm target) (now (src .entry)) at (r .length) (r .units) ⌝ }
@@ -73,8 +93,8 @@ fn whole(target: Target, src: &[u16], at: usize, count: usize) -> Run
             units: wide(bytes(src, at, count)),
         },
         Target::UtfEbcdic => Run {
-            length: 0,
-            units: 0,
+            length: count,
+            units: wide(ebcdic_bytes(src, at, count)),
         },
         Target::Utf16 => Run {
             length: 0,
