@@ -9,7 +9,7 @@ ghost use Rattle.forms.specs.Forms.{fssUtf};
 ghost use Rattle.laws.proofs.Runs.{Counted, sum};
 ghost use Rattle.laws.proofs.Blocks.{AtMost};
 ghost use Rattle.encoder.specs.Target.{targetForm};
-ghost use Rattle.fss_utf_runs.specs.Validation.{Validated, Blocks, Whole, illFormed, bit, added, addedAt, isTrailingByte, utfEbcdicWeights, utf16Weights, ucs4Weights};
+ghost use Rattle.fss_utf_runs.specs.Validation.{Validated, Blocks, Whole, illFormed, bit, added, addedAt, isTrailingByte};
 
 // From which byte on a lead adds a second, third, fourth and fifth unit; and the lead whose second byte adds one from A0 on. FF, which
 // stands in no well-formed text, is reached by no lead.

@@ -808,7 +808,7 @@ pub fn flag(byte: u8) -> u8
     FLAGS[i]
 }
 
-// The three tables whole: a loop takes one before it starts, and looks up in that copy.
+// The exchange and its inverse whole: a loop takes one before it starts, and looks up in that copy.
 pub fn exchange_table() -> [u8; 256]
     ensures { λ r. ⌜ Tabulates i8Of r ⌝ }
 {
