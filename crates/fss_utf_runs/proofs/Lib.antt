@@ -1,5 +1,1 @@
-pub mod Validating
-pub mod WellFormed
-pub mod TargetWeights
-pub mod Counting
 pub mod KnownBytes

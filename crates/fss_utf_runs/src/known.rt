@@ -1,6 +1,7 @@
 // The character at an offset where one is known to stand: nothing is tested but its length.
 use characters::Short;
 ghost use mathlib.Core.Path.{_≡_};
+ghost use Prim.Native.Nat.{_≤_};
 ghost use Rattle.forms.specs.Forms.{fssUtf};
 ghost use Rattle.laws.proofs.Runs.{Stands};
 ghost use Rattle.characters.specs.Short.{ShortAt};
@@ -9,6 +10,13 @@ fn wide(byte: u8) -> u32
     ensures { λ r. ⌜ r ≡ byte ⌝ }
 {
     byte as u32
+}
+
+// Not too many at once, so that blocks are tried again.
+pub fn bounded(left: usize) -> usize
+    ensures { λ r. ⌜ r ≤ left ⌝ }
+{
+    if left < 128 { left } else { 128 }
 }
 
 // Length 0 where it has more than four bytes.

@@ -69,7 +69,7 @@ fn few(src: &[u8], at: usize, dst: &mut [u32], written: usize) -> Run
     requires { ⌜ (at ≤ length (now src)) × Convertible fssUtf ucs4 (now src) at written (length (now dst)) ⌝ }
     ensures { λ r. ⌜ Wrote fssUtf ucs4 (now (src .entry)) at (r .length) (r .units) (now (dst .entry)) written (now (dst .exit)) ⌝ }
 {
-    let room = crate::count::bounded(src.len() - at);
+    let room = crate::known::bounded(src.len() - at);
     let mut length: usize = 0;
     let mut units: usize = 0;
     while length < room {

@@ -28,3 +28,4 @@ pub mod Runs
 pub mod ReadUnits
 pub mod Blocks
 pub mod Values
+pub mod Moved

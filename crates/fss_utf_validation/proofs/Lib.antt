@@ -1,0 +1,4 @@
+pub mod Validating
+pub mod WellFormed
+pub mod TargetWeights
+pub mod Counting
