@@ -13,6 +13,7 @@ pub mod Spans
 pub mod LayoutTable
 pub mod Items
 pub mod ReadItems
+pub mod Marks
 pub mod Characters
 pub mod Buffers
 pub mod Outcomes

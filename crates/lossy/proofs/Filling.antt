@@ -21,12 +21,12 @@ use Rattle.lossy.specs.Demand3.{DecodesLossy}
 use Rattle.laws.proofs.FormLaws.{Laws}
 use Rattle.laws.proofs.Buffers.{holds-more}
 use Rattle.laws.proofs.Items.{itemsOnward}
+use Rattle.laws.proofs.Marks.{mark-most, marks-append}
 use Rattle.laws.proofs.ReadItems.{ItemAt, ReadTo, read-begin, read-more, read-next, read-end, item-offset}
 use Rattle.laws.proofs.Table.{and-left, and-right}
-use Rattle.lossy.specs.ReadOn.{Room, ReadOn}
-use Rattle.lossy.proofs.ThreeParts.{marks-append}
+use Rattle.lossy_runs.specs.ReadOn.{Room, ReadOn}
 use Rattle.lossy.proofs.ExactLossy.{items-most}
-use Rattle.lossy.proofs.ReadingOn.{mark-most, fill, read-nothing}
+use Rattle.lossy_runs.proofs.ReadingOn.{fill, read-nothing}
 use Rattle.lossy.proofs.LossyCalls.{lossy-over, lossy-short-values, lossy-short-starts, lossy-all, promise}
 
 -- so many items before `at`

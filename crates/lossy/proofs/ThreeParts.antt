@@ -4,17 +4,18 @@ use mathlib.Core.Path.{_≡_, refl, sym, ap, _∙_, subst}
 use mathlib.Core.Logic.{_≢_, _↔_}
 use mathlib.Core.List.{List, [], _∷_, _++_, map, map-append, append-nil}
 use native.Mathlib.Omega.{arith}
-use native.Mathlib.Nat.{zero-add, add-zero, add-assoc}
+use native.Mathlib.Nat.{zero-add, add-zero}
 use native.Mathlib.Decide.{decLt, ℕ-discrete}
 use lib.ListN.{length, getD, take, drop, length-append, length-drop, length-map, take-append-drop}
 use lib.Seq.{drop-append-seam, getD-at, length-take-le}
 use Rattle.types.specs.declared.Item.{Item}
-use Rattle.types.specs.declared.Item.the-variants.{Character, Mark}
+use Rattle.types.specs.declared.Item.the-variants.{Character}
 use Rattle.forms.specs.Form.{Role, lead, Sequence, sequence, units, size, Form, isTrailing, asked, sequences, Content, character, mark, content, span, itemOf, itemsFrom, items, encode, encodeAll, AllEncodable, OccursAt}
-use Rattle.forms.specs.Lossy.{markValue, valueOf, offsetOf, markCount, marks}
+use Rattle.forms.specs.Lossy.{markValue, valueOf, offsetOf, marks}
 use Rattle.lossy.specs.Demand3.{startsFrom, Given, Under, Outside, UnderOneMark, Parts}
 use Rattle.laws.proofs.Sequences.{NoTrailingFirst, AllTrailing, Full, joined, sequences-border, sequences-full, sequences-joined}
 use Rattle.laws.proofs.FormLaws.{Reads, Laws}
+use Rattle.laws.proofs.Marks.{marks-append}
 use Rattle.laws.proofs.Characters.{charactersFrom, reads-item, content-reads, all-taken, AllTaken, read-characters}
 use Rattle.lossy.proofs.Cells.{shown, none-there, values, starts, length-items, length-values, length-starts, items-append, values-anywhere, marks-anywhere, starts-moved, value-at, start-at, joined-split, joined-next, Has, has}
 
@@ -35,10 +36,6 @@ module _ (F : Form) where
   characters-count : (p : ℕ) (vs : List ℕ) → length (charactersFrom F p vs) ≡ length vs
   characters-count p [] = refl
   characters-count p (v ∷ vs) = ap suc (characters-count (p + length (encode F v)) vs)
-
-pub marks-append : (is js : List Item) → marks (is ++ js) ≡ marks is + marks js
-marks-append [] js = sym (zero-add (marks js))
-marks-append (i ∷ is) js = ap (λ (n : ℕ). markCount i + n) (marks-append is js) ∙ sym (add-assoc (markCount i) (marks is) (marks js))
 
 -- a value other than the mark's is a character's
 shown-character : (t : Content) (v : ℕ) → shown t ≡ v → v ≢ markValue → t ≡ character v

@@ -1,5 +1,5 @@
 // FSS-UTF and UTF-EBCDIC.
-use crate::steps::Read;
+use lossy_runs::steps::Read;
 use tables::ByteForm;
 use types::Counts;
 use types::Decoding;
@@ -10,7 +10,7 @@ ghost use Prim.Native.Nat.{_≤_};
 ghost use lib.ListN.{length};
 ghost use Rattle.forms.specs.Form.{items};
 ghost use Rattle.lossy.specs.Demand3.{DecodesLossy};
-ghost use Rattle.lossy.specs.ReadOn.{Room, ReadOn};
+ghost use Rattle.lossy_runs.specs.ReadOn.{Room, ReadOn};
 ghost use Rattle.tables.specs.ByteForms.{byteForm};
 
 // How many items a text has.
@@ -56,7 +56,7 @@ fn read_on(
     ensures { λ r. ⌜ ReadOn (byteForm form) (now (text .entry)) at (r .at) (now (values .entry)) (now (starts .entry)) items (r .items) (now (values .exit)) (now (starts .exit)) ⌝ }
 {
     match form {
-        ByteForm::FssUtf => crate::fss_utf::read_on(text, at, values, starts, items),
+        ByteForm::FssUtf => lossy_runs::fss_utf::read_on(text, at, values, starts, items),
         ByteForm::UtfEbcdic => Read { at, items },
     }
 }

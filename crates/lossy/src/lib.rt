@@ -3,8 +3,6 @@
 // A text's items go into two lent buffers: the value of each (FFFFFFFF for a mark) and its start. `specs/Lossy` of `forms` says what each
 // call gives, and `specs/Demand3` here what its caller has for every text of characters, any code units, and characters.
 mod bytes;
-mod fss_utf;
-mod steps;
 mod ucs4;
 mod utf16;
 

@@ -1,5 +1,5 @@
 use borrow.Author.Needs.{needs}
-use Rattle.lossy.proofs.ReadingOn.{read-none}
+use Rattle.lossy_runs.proofs.ReadingOn.{read-none}
 use Rattle.lossy.proofs.bytes.read_on.Statement.{statement}
 use Rattle.lossy.proofs.bytes.read_on.Tie as tie
 

@@ -6,8 +6,8 @@ use lib.ListN.{length}
 use denote.Ref.{now}
 use Rattle.forms.specs.Forms.{ucs4}
 use Rattle.laws.proofs.FourForms.{ucs4-laws}
+use Rattle.laws.proofs.Marks.{mark-most}
 use Rattle.laws.proofs.ReadItems.{ItemAt, item-at, item-onward}
-use Rattle.lossy.proofs.ReadingOn.{mark-most}
 use Rattle.lossy.proofs.Filling.{Filling, filling-over, filling-short, filling-begin, filling-end, filling-next, filling-more, filling-room, filling-run, filling-none}
 use Rattle.lossy.proofs.ucs4.decode_lossy.Statement.{statement}
 use Rattle.lossy.proofs.ucs4.decode_lossy.Tie as tie

@@ -3,7 +3,7 @@ ghost use mathlib.Core.Path.{_≡_};
 ghost use Prim.Native.Nat.{_+_, _≤_};
 ghost use lib.ListN.{length};
 ghost use Rattle.forms.specs.Buffer.{withUnits};
-ghost use Rattle.lossy.specs.ReadOn.{offsetsFrom};
+ghost use Rattle.lossy_runs.specs.ReadOn.{offsetsFrom};
 
 // How far a step came: the offset and the cell behind the characters that it read.
 pub struct Read {

@@ -9,20 +9,16 @@ use lib.ListN.{length, getD, take, drop, set, length-append, length-map, length-
 use lib.Seq.{drop-cons, set-at, append-snoc, length-take-le, take-all, take-suc-set, paste}
 use Rattle.types.specs.declared.Span.{Span}
 use Rattle.types.specs.declared.Item.{Item}
-use Rattle.types.specs.declared.Item.the-variants.{Character, Mark}
+use Rattle.types.specs.declared.Item.the-variants.{Character}
 use Rattle.forms.specs.Form.{Form, size, span, spanOf}
 use Rattle.forms.specs.Buffer.{withUnits}
-use Rattle.forms.specs.Lossy.{valueOf, offsetOf, markCount, marks}
+use Rattle.forms.specs.Lossy.{valueOf, offsetOf, marks}
 use Rattle.laws.proofs.Items.{itemsOnward, sequenceAt, items-step, length-at}
 use Rattle.laws.proofs.ReadItems.{ItemAt, item-onward}
+use Rattle.laws.proofs.Marks.{marks-append}
 use Rattle.laws.proofs.Progress.{CharacterAt}
 use Rattle.laws.proofs.Buffers.{copy-begin, copy-more, copy-end, length-with}
-use Rattle.lossy.specs.ReadOn.{Room, Between, ReadOn, offsetsFrom}
-use Rattle.lossy.proofs.ThreeParts.{marks-append}
-
-pub mark-most : (i : Item) → markCount i ≤ 1
-mark-most (Character v p) = omega arith
-mark-most (Mark f p) = omega arith
+use Rattle.lossy_runs.specs.ReadOn.{Room, Between, ReadOn, offsetsFrom}
 
 -- the first j units of a block of 16 copied over d from n on
 pub record Copied (d : List ℕ) (n : ℕ) (b : List ℕ) (j : ℕ) (o : List ℕ) : Type 0 where

@@ -6,10 +6,10 @@ use borrow.Author.Needs.{needs}
 use lib.Dec.{leb, ltb}
 use denote.Ref.{now}
 use Rattle.forms.specs.Forms.{utf16}
-use Rattle.lossy.proofs.Units.{or-false-left, or-false-right, lone-unit}
-use Rattle.lossy.proofs.ReadingOn.{Copied, copied-none, copied-more, copied-all, read-none, read-block, block-room, Singles, Loading, loading-none, loading-more, loading-all}
-use Rattle.lossy.proofs.utf16.block_at.Statement.{statement}
-use Rattle.lossy.proofs.utf16.block_at.Tie as tie
+use Rattle.lossy_runs.proofs.Units.{or-false-left, or-false-right, lone-unit}
+use Rattle.lossy_runs.proofs.ReadingOn.{Copied, copied-none, copied-more, copied-all, read-none, read-block, block-room, Singles, Loading, loading-none, loading-more, loading-all}
+use Rattle.lossy_runs.proofs.utf16.block_at.Statement.{statement}
+use Rattle.lossy_runs.proofs.utf16.block_at.Tie as tie
 
 abbrev Inv-loop : tie.InvT-loop
 Inv-loop text at values starts items block₀ found₀ j₀ block found j = Loading utf16 text at j block (found ≡ false)

@@ -8,10 +8,10 @@ use Rattle.forms.specs.Form.{span}
 use Rattle.forms.specs.Forms.{utf16}
 use Rattle.laws.proofs.Progress.{CharacterAt}
 use Rattle.laws.proofs.ReadItems.{ItemAt, item-onward}
-use Rattle.lossy.specs.ReadOn.{ReadOn}
-use Rattle.lossy.proofs.ReadingOn.{character-item, read-none, read-next, read-character}
-use Rattle.lossy.proofs.utf16.some_at.Statement.{statement}
-use Rattle.lossy.proofs.utf16.some_at.Tie as tie
+use Rattle.lossy_runs.specs.ReadOn.{ReadOn}
+use Rattle.lossy_runs.proofs.ReadingOn.{character-item, read-none, read-next, read-character}
+use Rattle.lossy_runs.proofs.utf16.some_at.Statement.{statement}
+use Rattle.lossy_runs.proofs.utf16.some_at.Tie as tie
 
 abbrev Inv-loop : tie.InvT-loop
 Inv-loop text at values₀ starts₀ items stop to₀ cell₀ values starts to cell = ReadOn utf16 text at to values₀ starts₀ items cell values starts

@@ -1,10 +1,10 @@
 use Prim.Native.Nat.{_-_}
 use mathlib.Core.Path.{sym}
 use borrow.Author.Needs.{needs}
-use Rattle.lossy.specs.ReadOn.{offsetsFrom}
-use Rattle.lossy.proofs.ReadingOn.{Copied, copied-none, copied-more, copied-all, offsets-at, offsets-length}
-use Rattle.lossy.proofs.steps.put_offsets.Statement.{statement}
-use Rattle.lossy.proofs.steps.put_offsets.Tie as tie
+use Rattle.lossy_runs.specs.ReadOn.{offsetsFrom}
+use Rattle.lossy_runs.proofs.ReadingOn.{Copied, copied-none, copied-more, copied-all, offsets-at, offsets-length}
+use Rattle.lossy_runs.proofs.steps.put_offsets.Statement.{statement}
+use Rattle.lossy_runs.proofs.steps.put_offsets.Tie as tie
 
 abbrev Inv-loop : tie.InvT-loop
 Inv-loop at cells₀ from j₀ cells j = Copied cells₀ from (offsetsFrom at 16) j cells

@@ -1,7 +1,7 @@
 use borrow.Author.Needs.{needs}
-use Rattle.lossy.proofs.ReadingOn.{read-after}
-use Rattle.lossy.proofs.ucs4.read_on.Statement.{statement}
-use Rattle.lossy.proofs.ucs4.read_on.Tie as tie
+use Rattle.lossy_runs.proofs.ReadingOn.{read-after}
+use Rattle.lossy_runs.proofs.utf16.read_on.Statement.{statement}
+use Rattle.lossy_runs.proofs.utf16.read_on.Tie as tie
 
 block-at-requires : tie.Need-block-at-requires
 block-at-requires c κs = search needs

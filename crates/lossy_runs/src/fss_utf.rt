@@ -3,7 +3,7 @@ use crate::steps::Read;
 ghost use mathlib.Core.Path.{_≡_};
 ghost use lib.ListN.{length};
 ghost use Rattle.forms.specs.Forms.{fssUtf};
-ghost use Rattle.lossy.specs.ReadOn.{Room, ReadOn};
+ghost use Rattle.lossy_runs.specs.ReadOn.{Room, ReadOn};
 
 fn wide(byte: u8) -> u32
     ensures { λ r. ⌜ r ≡ byte ⌝ }

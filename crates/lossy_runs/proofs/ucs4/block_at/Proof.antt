@@ -1,16 +1,18 @@
-use Prim.Native.Nat.{_-_, _<_}
+use Prim.Native.Nat.{_+_, _-_, _<_}
 use mathlib.Core.Path.{refl}
 use native.Mathlib.Omega.{arith}
 use borrow.Author.Needs.{needs}
+use lib.ListN.{getD}
 use denote.Ref.{now}
-use Rattle.forms.specs.Forms.{fssUtf}
-use Rattle.characters.proofs.Shorts.{or-left, or-right, one-byte}
-use Rattle.lossy.proofs.ReadingOn.{Copied, copied-none, copied-more, copied-all, read-none, read-block, block-room, Singles, Loading, loading-none, loading-more, loading-all}
-use Rattle.lossy.proofs.fss_utf.block_at.Statement.{statement}
-use Rattle.lossy.proofs.fss_utf.block_at.Tie as tie
+use Rattle.forms.specs.Forms.{ucs4}
+use Rattle.characters.proofs.Shorts.{or-left, or-right}
+use Rattle.lossy_runs.proofs.Units.{ucs4-unit}
+use Rattle.lossy_runs.proofs.ReadingOn.{Copied, copied-none, copied-more, copied-all, read-none, read-block, block-room, Singles, Loading, loading-none, loading-more, loading-all}
+use Rattle.lossy_runs.proofs.ucs4.block_at.Statement.{statement}
+use Rattle.lossy_runs.proofs.ucs4.block_at.Tie as tie
 
 abbrev Inv-loop : tie.InvT-loop
-Inv-loop text at values starts items block₀ all₀ j₀ block all j = Loading fssUtf text at j block (all < 0x80)
+Inv-loop text at values starts items block₀ all₀ j₀ block all j = Loading ucs4 text at j block (all < 0x80000000)
 
 abbrev μ-loop : tie.MeasureT-loop
 μ-loop text at values starts items block₀ all₀ j₀ block all j = 16 - j
@@ -23,13 +25,13 @@ abbrev μ-loop2 : tie.MeasureT-loop2
 
 -- behind the test of the block
 abbrev Tested : Type 0
-Tested = tie.Else3 Inv-loop μ-loop Inv-loop2 μ-loop2
+Tested = tie.Else2 Inv-loop μ-loop Inv-loop2 μ-loop2
 
 abbrev begun : Tested → tie.Start Inv-loop μ-loop Inv-loop2 μ-loop2
-begun c = c .before .before .before .before .before .before .before .before .before
+begun c = c .before .before .before .before .before .before .before
 
-whole : (c : Tested) → Singles fssUtf (now (begun c .args .text)) (begun c .args .at) 16 (c .before .before .loop .block)
-whole c = loading-all (c .before .before .loop .inv) (c .before .loop-test .left) (c .if3 .left)
+whole : (c : Tested) → Singles ucs4 (now (begun c .args .text)) (begun c .args .at) 16 (c .before .before .loop .block)
+whole c = loading-all (c .before .before .loop .inv) (c .before .loop-test .left) (c .if2 .left)
 
 sub-if1 : tie.Need-sub-if1 Inv-loop μ-loop Inv-loop2 μ-loop2
 sub-if1 c = c .before .before .before .pre .within
@@ -37,23 +39,17 @@ sub-if1 c = c .before .before .before .pre .within
 returns : tie.Need-returns Inv-loop μ-loop Inv-loop2 μ-loop2
 returns c = read-none (c .before .before .before .before .pre .within)
 
-shared-slice-read-if2 : tie.Need-shared-slice-read-if2 Inv-loop μ-loop Inv-loop2 μ-loop2
-shared-slice-read-if2 c = search needs
-
-returns-2 : tie.Need-returns-2 Inv-loop μ-loop Inv-loop2 μ-loop2
-returns-2 c = read-none (c .before .before .before .before .before .before .pre .within)
-
 loop-holds : tie.Need-loop-holds Inv-loop μ-loop Inv-loop2 μ-loop2
-loop-holds c = loading-none (c .before .before .before .before .before .before .pre .within) refl
+loop-holds c = loading-none (c .before .before .before .before .pre .within) refl
 
-add-wide : tie.Need-add-wide Inv-loop μ-loop Inv-loop2 μ-loop2
-add-wide c = search needs
+add-unit : tie.Need-add-unit Inv-loop μ-loop Inv-loop2 μ-loop2
+add-unit c = search needs
 
-shared-slice-read-wide : tie.Need-shared-slice-read-wide Inv-loop μ-loop Inv-loop2 μ-loop2
-shared-slice-read-wide c = search needs
+mul-unit : tie.Need-mul-unit Inv-loop μ-loop Inv-loop2 μ-loop2
+mul-unit c = search needs
 
-wide-requires : tie.Need-wide-requires Inv-loop μ-loop Inv-loop2 μ-loop2
-wide-requires c κs = search needs
+shared-slice-read-unit : tie.Need-shared-slice-read-unit Inv-loop μ-loop Inv-loop2 μ-loop2
+shared-slice-read-unit c = search needs
 
 mul-block : tie.Need-mul-block Inv-loop μ-loop Inv-loop2 μ-loop2
 mul-block c = search needs
@@ -69,13 +65,12 @@ loop-less c = search needs
 
 loop-again : tie.Need-loop-again Inv-loop μ-loop Inv-loop2 μ-loop2
 loop-again c =
-    let l = c .before .before .before .loop in
-    let x = c .wide .result in
-    loading-more (l .inv) (c .before .before .loop-test .taken) (λ q. omega (arith, q, or-left (l .all) x))
-    (λ q. one-byte (omega arith) (omega (arith, q, or-right (l .all) x, c .wide .ensures)) (c .wide .ensures) .character (λ z. omega arith))
+    let l = c .before .before .loop in
+    let x = getD (now (c .before .before .before .before .before .before .before .args .text)) (c .before .before .before .before .before .before .before .args .at + l .j) 0 in
+    loading-more (l .inv) (c .before .loop-test .taken) (λ q. omega (arith, q, or-left (l .all) x)) (λ q. ucs4-unit (omega arith) refl (omega (arith, q, or-right (l .all) x)))
 
-returns-3 : tie.Need-returns-3 Inv-loop μ-loop Inv-loop2 μ-loop2
-returns-3 c = read-none (c .before .before .before .before .before .before .before .before .before .pre .within)
+returns-2 : tie.Need-returns-2 Inv-loop μ-loop Inv-loop2 μ-loop2
+returns-2 c = read-none (c .before .before .before .before .before .before .before .pre .within)
 
 loop2-holds : tie.Need-loop2-holds Inv-loop μ-loop Inv-loop2 μ-loop2
 loop2-holds c = copied-none
@@ -123,8 +118,8 @@ same-length c = c .before .before .before .before .before .loop2 .inv .long
 same-length-2 : tie.Need-same-length-2 Inv-loop μ-loop Inv-loop2 μ-loop2
 same-length-2 c = c .before .before .put-offsets .kept .1 .0
 
-returns-4 : tie.Need-returns-4 Inv-loop μ-loop Inv-loop2 μ-loop2
-returns-4 c =
+returns-3 : tie.Need-returns-3 Inv-loop μ-loop Inv-loop2 μ-loop2
+returns-3 c =
     let t = c .before .before .before .before .before .before in
     let l = t .before .before .loop .inv .long in
     read-block (begun t .pre) (whole t) l (copied-all (c .before .before .before .before .before .loop2 .inv) l (c .before .before .before .before .loop2-test .left)) (c .before .before .put-offsets .ensures)
@@ -139,18 +134,16 @@ block-at-spec =
     μ-loop2
     sub-if1
     returns
-    shared-slice-read-if2
-    returns-2
     loop-holds
-    add-wide
-    shared-slice-read-wide
-    wide-requires
+    add-unit
+    mul-unit
+    shared-slice-read-unit
     mul-block
     array-write-block
     add-j
     loop-less
     loop-again
-    returns-3
+    returns-2
     loop2-holds
     mul-values
     array-read-values
@@ -165,4 +158,4 @@ block-at-spec =
     add-t12
     same-length
     same-length-2
-    returns-4)
+    returns-3)
