@@ -6,7 +6,7 @@ use Rattle.types.specs.declared.Conversion.{Conversion}
 use Rattle.forms.specs.Form.{Form}
 use Rattle.forms.specs.Conversion.{Measures, Converts}
 use Rattle.types.specs.declared.Decoding.{Decoding}
-use Rattle.lossy.specs.Demand3.{DecodesLossy}
+use Rattle.demand3.specs.Demand3.{DecodesLossy}
 use Rattle.jiskromet.specs.declared.JkConversion.{JkConversion}
 use Rattle.jiskromet.specs.declared.JkDecoding.{JkDecoding}
 use Rattle.jiskromet.specs.Answer.{conversionAnswer, MeasuresInC, ConvertsInC, decodingAnswer, DecodesLossyInC}

@@ -16,7 +16,7 @@ use Rattle.types.specs.declared.Start.the-variants.{At, Refused as NoStart}
 use Rattle.forms.specs.Fault.{numberOf}
 use Rattle.forms.specs.Form.{Form}
 use Rattle.forms.specs.Conversion.{outcome, strict, answerOf, cellsOf}
-use Rattle.lossy.specs.Demand3.{DecodesLossy}
+use Rattle.demand3.specs.Demand3.{DecodesLossy}
 use Rattle.reader.specs.declared.Step.{Step}
 use Rattle.reader.specs.declared.Step.the-variants.{Next, End, Refused}
 use Rattle.jiskromet.specs.declared.JkItem.{JkItem}

@@ -4,12 +4,12 @@ use mathlib.Core.Path.{_≡_, refl, sym, ap, _∙_}
 use mathlib.Core.List.{List, [], _∷_}
 use native.Mathlib.Omega.{arith}
 use native.Mathlib.Numerals.{add-one}
-use lib.ListN.{length, getD, drop, length-drop, drop-of-length-le}
+use lib.ListN.{length, getD, drop, length-append, length-drop, drop-of-length-le}
 use lib.Seq.{drop-cons, drop-drop}
 use Rattle.types.specs.declared.Item.{Item}
 use Rattle.types.specs.declared.Span.{Span}
-use Rattle.forms.specs.Form.{Sequence, size, Form, firstOf, sequences, spanOf, itemOf, itemsFrom}
-use Rattle.laws.proofs.Sequences.{sequences-after}
+use Rattle.forms.specs.Form.{Sequence, units, size, Form, firstOf, sequences, spanOf, itemOf, itemsFrom, items}
+use Rattle.laws.proofs.Sequences.{joined, sequences-after, sequences-joined}
 use Rattle.laws.proofs.Spans.{item-span, size-within}
 
 abbrev pub itemsOnward : Form → List ℕ → ℕ → List Item
@@ -46,3 +46,15 @@ module _ (F : Form) (s : List ℕ) (p : ℕ) where
 
     pub within-at : p + size (sequenceAt F s p) ≤ length s
     within-at = omega (arith, size-within F (getD s p 0) (drop (p + 1) s), length-drop (p + 1) s)
+
+-- a text has as many items as sequences, and no more than units
+pub length-items : (F : Form) (p : ℕ) (cs : List Sequence) → length (itemsFrom F p cs) ≡ length cs
+length-items F p [] = refl
+length-items F p (c ∷ cs) = ap suc (length-items F (p + size c) cs)
+
+joined-most : (cs : List Sequence) → length cs ≤ length (joined cs)
+joined-most [] = omega arith
+joined-most (c ∷ cs) = omega (arith, joined-most cs, length-append (units c) (joined cs))
+
+pub items-most : (F : Form) (s : List ℕ) → length (items F s) ≤ length s
+items-most F s = omega (arith, length-items F 0 (sequences F s), joined-most (sequences F s), ap length (sequences-joined F s 0))

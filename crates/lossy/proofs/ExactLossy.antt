@@ -1,29 +1,19 @@
--- When a lossy decoding gives each of its answers, and how much room it needs.
-use Prim.Native.Nat.{ℕ, _+_, _≤_, _<_}
+-- When a lossy decoding gives each of its answers.
+use Prim.Native.Nat.{ℕ, _≤_, _<_}
 use mathlib.Core.Path.{_≡_, refl, sym, ap, _∙_}
 use mathlib.Core.Logic.{_↔_, _⊎_, inl, inr}
-use mathlib.Core.List.{List, [], _∷_}
+use mathlib.Core.List.{List}
 use native.Mathlib.Omega.{arith}
 use native.Mathlib.Decide.{decLt}
-use lib.ListN.{length, length-append}
+use lib.ListN.{length}
 use Rattle.types.specs.declared.Fault.{Fault}
 use Rattle.types.specs.declared.Fault.the-variants.{SourceTooLong, BufferTooShort}
 use Rattle.types.specs.declared.Item.{Item}
 use Rattle.types.specs.declared.Refusal.{Refusal}
 use Rattle.forms.specs.Fault.{numberOf, limit, refusal}
-use Rattle.forms.specs.Form.{Sequence, units, Form, sequences, items}
+use Rattle.forms.specs.Form.{Form, items}
 use Rattle.forms.specs.Lossy.{Outcome, decoded, refused, lossy}
-use Rattle.laws.proofs.Sequences.{joined, sequences-joined}
-use Rattle.lossy.proofs.Cells.{length-items}
-use Rattle.lossy.proofs.LossyCalls.{lossy-over, lossy-short-values, lossy-short-starts, lossy-all}
-
--- a text has no more items than units
-joined-most : (cs : List Sequence) → length cs ≤ length (joined cs)
-joined-most [] = omega arith
-joined-most (c ∷ cs) = omega (arith, joined-most cs, length-append (units c) (joined cs))
-
-pub items-most : (F : Form) (s : List ℕ) → length (items F s) ≤ length s
-items-most F s = omega (arith, length-items F 0 (sequences F s), joined-most (sequences F s), ap length (sequences-joined F s 0))
+use Rattle.demand3.proofs.LossyCalls.{lossy-over, lossy-short-values, lossy-short-starts, lossy-all}
 
 -- 1, then 7 where either buffer is short, and no other refusal
 pub record ExactLossy (F : Form) (s : List ℕ) (m n : ℕ) : Type 0 where

@@ -1,11 +1,11 @@
--- The loops of a lossy decoding: the count of items, and the two buffers filled item by item.
+-- The loops of a lossy decoding: the two buffers filled item by item and step by step.
 use Prim.Native.Nat.{ℕ, _+_, _≤_, _<_}
 use mathlib.Core.Path.{_≡_, refl, sym, ap, _∙_}
 use mathlib.Core.Bool.{Bool, true, false, _&&_}
 use mathlib.Core.List.{List, [], _∷_, _++_, map, map-append, append-assoc}
 use native.Mathlib.Omega.{arith}
 use native.Mathlib.Nat.{add-zero}
-use borrow.Author.Tests.{leb-true, leb-false, le-leb}
+use borrow.Author.Tests.{leb-true, leb-false}
 use lib.Dec.{leb}
 use lib.ListN.{length, drop, set, length-append, length-map, length-set}
 use Rattle.types.specs.declared.Fault.the-variants.{SourceTooLong, BufferTooShort}
@@ -17,7 +17,7 @@ use Rattle.forms.specs.Fault.{limit, refusal}
 use Rattle.forms.specs.Buffer.{withUnits}
 use Rattle.forms.specs.Form.{Form, items}
 use Rattle.forms.specs.Lossy.{valueOf, offsetOf, markCount, marks, Outcome, decoded, refused, lossy, counts, answerOf, valuesIn, startsIn}
-use Rattle.lossy.specs.Demand3.{DecodesLossy}
+use Rattle.demand3.specs.Demand3.{DecodesLossy}
 use Rattle.laws.proofs.FormLaws.{Laws}
 use Rattle.laws.proofs.Buffers.{holds-more}
 use Rattle.laws.proofs.Items.{itemsOnward}
@@ -25,27 +25,8 @@ use Rattle.laws.proofs.Marks.{mark-most, marks-append}
 use Rattle.laws.proofs.ReadItems.{ItemAt, ReadTo, read-begin, read-more, read-next, read-end, item-offset}
 use Rattle.laws.proofs.Table.{and-left, and-right}
 use Rattle.lossy_runs.specs.ReadOn.{Room, ReadOn}
-use Rattle.lossy.proofs.ExactLossy.{items-most}
 use Rattle.lossy_runs.proofs.ReadingOn.{fill, read-nothing}
-use Rattle.lossy.proofs.LossyCalls.{lossy-over, lossy-short-values, lossy-short-starts, lossy-all, promise}
-
--- so many items before `at`
-pub record Counting (F : Form) (s : List ℕ) (at n : ℕ) : Type 0 where
-  pub done : List Item
-  pub read : ReadTo F s at done
-  pub counted : n ≡ length done
-
-module _ {F : Form} {s : List ℕ} where
-  pub counting-begin : Counting F s 0 0
-  counting-begin = record { done = []; read = read-begin F s; counted = refl }
-
-  module _ {p n : ℕ} where
-    pub counting-more : {i : Item} {q : Span} → Counting F s p n → ItemAt F s p i q → Counting F s (p + q .length) (n + 1)
-    counting-more {i} c a =
-        record { done = c .done ++ (i ∷ []); read = read-more (c .read) a; counted = omega (arith, c .counted, length-append (c .done) (i ∷ [])) }
-
-    pub counting-end : Counting F s p n → length s ≤ p → n ≡ length (items F s)
-    counting-end c h = c .counted ∙ sym (ap length (read-end (c .read) h))
+use Rattle.demand3.proofs.LossyCalls.{lossy-over, lossy-short-values, lossy-short-starts, lossy-all, promise}
 
 -- the items before `at` stand in both buffers, and there is room for all
 pub record Filling (F : Form) (s d e : List ℕ) (at n m : ℕ) (o p : List ℕ) : Type 0 where
@@ -66,10 +47,6 @@ pub record Filling (F : Form) (s d e : List ℕ) (at n m : ℕ) (o p : List ℕ)
 holding :
     (d xs ys o v : List ℕ) (n b : ℕ) → o ≡ xs ++ drop n d → length xs ≡ n → v ≡ withUnits o n ys → b ≡ n + length ys → v ≡ (xs ++ ys) ++ drop b d
 holding d xs ys o v n b e h g k = let m = holds-more d xs ys o v n b (record { counted = sym h; cells = e }) k g in m .cells
-
--- whether there is room for all
-pub room-known : (F : Form) (s : List ℕ) (m n : ℕ) → length s ≤ m → length s ≤ n → true ≡ (leb (length (items F s)) m && leb (length (items F s)) n)
-room-known F s m n h k = rw (le-leb (length (items F s)) m (omega (arith, items-most F s)), le-leb (length (items F s)) n (omega (arith, items-most F s)))
 
 module _ {F : Form} {s d e : List ℕ} where
   module _ {r : Refusal} (laws : Laws F) where

@@ -1,7 +1,7 @@
 // Lossy decoding of the four forms, document 01's mended reading: public calls, which ask nothing of their caller.
 //
 // A text's items go into two lent buffers: the value of each (FFFFFFFF for a mark) and its start. `specs/Lossy` of `forms` says what each
-// call gives, and `specs/Demand3` here what its caller has for every text of characters, any code units, and characters.
+// call gives, and `specs/Demand3` of `demand3` what its caller has for every text of characters, any code units, and characters.
 mod bytes;
 mod ucs4;
 mod utf16;
@@ -9,7 +9,7 @@ mod utf16;
 use tables::ByteForm;
 use types::Decoding;
 ghost use Rattle.forms.specs.Forms.{fssUtf, utfEbcdic, utf16, ucs4};
-ghost use Rattle.lossy.specs.Demand3.{DecodesLossy};
+ghost use Rattle.demand3.specs.Demand3.{DecodesLossy};
 
 pub fn fss_utf_decode_lossy(text: &[u8], values: &mut [u32], starts: &mut [u32]) -> Decoding
     ensures { λ r. ⌜ DecodesLossy fssUtf (now (text .entry)) (now (values .entry)) (now (starts .entry)) r (now (values .exit)) (now (starts .exit)) ⌝ }

@@ -1,14 +1,14 @@
 use borrow.Author.Needs.{needs}
 use denote.Ref.{now}
-use Rattle.forms.specs.Forms.{ucs4}
-use Rattle.lossy.proofs.Filling.{room-known}
-use Rattle.lossy.proofs.ucs4.has_room.Statement.{statement}
-use Rattle.lossy.proofs.ucs4.has_room.Tie as tie
+use Rattle.tables.specs.ByteForms.{byteForm}
+use Rattle.lossy_room.proofs.Counting.{room-known}
+use Rattle.lossy_room.proofs.bytes.has_room.Statement.{statement}
+use Rattle.lossy_room.proofs.bytes.has_room.Tie as tie
 
 returns : tie.Need-returns
 returns c =
     let a = c .before .before .before .args in
-    room-known ucs4 (now (a .text)) (a .values) (a .starts) (c .before .if1 .taken) (c .if2 .taken)
+    room-known (byteForm (a .form)) (now (a .text)) (a .values) (a .starts) (c .before .if1 .taken) (c .if2 .taken)
 
 count-requires : tie.Need-count-requires
 count-requires c κs = search needs

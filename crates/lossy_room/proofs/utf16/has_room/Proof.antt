@@ -1,9 +1,9 @@
 use borrow.Author.Needs.{needs}
 use denote.Ref.{now}
 use Rattle.forms.specs.Forms.{utf16}
-use Rattle.lossy.proofs.Filling.{room-known}
-use Rattle.lossy.proofs.utf16.has_room.Statement.{statement}
-use Rattle.lossy.proofs.utf16.has_room.Tie as tie
+use Rattle.lossy_room.proofs.Counting.{room-known}
+use Rattle.lossy_room.proofs.utf16.has_room.Statement.{statement}
+use Rattle.lossy_room.proofs.utf16.has_room.Tie as tie
 
 returns : tie.Need-returns
 returns c =

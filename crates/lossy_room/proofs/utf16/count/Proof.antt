@@ -5,9 +5,9 @@ use lib.ListN.{length}
 use denote.Ref.{now}
 use Rattle.forms.specs.Forms.{utf16}
 use Rattle.laws.proofs.ReadItems.{ItemAt, item-at, item-onward}
-use Rattle.lossy.proofs.Filling.{Counting, counting-begin, counting-more, counting-end}
-use Rattle.lossy.proofs.utf16.count.Statement.{statement}
-use Rattle.lossy.proofs.utf16.count.Tie as tie
+use Rattle.lossy_room.proofs.Counting.{Counting, counting-begin, counting-more, counting-end}
+use Rattle.lossy_room.proofs.utf16.count.Statement.{statement}
+use Rattle.lossy_room.proofs.utf16.count.Tie as tie
 
 abbrev Inv-loop : tie.InvT-loop
 Inv-loop text at₀ count₀ at count = Counting utf16 text at count

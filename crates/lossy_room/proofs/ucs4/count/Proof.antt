@@ -3,17 +3,17 @@ use native.Mathlib.Omega.{arith}
 use borrow.Author.Needs.{needs}
 use lib.ListN.{length}
 use denote.Ref.{now}
-use Rattle.tables.specs.ByteForms.{byteForm}
+use Rattle.forms.specs.Forms.{ucs4}
 use Rattle.laws.proofs.ReadItems.{ItemAt, item-at, item-onward}
-use Rattle.lossy.proofs.Filling.{Counting, counting-begin, counting-more, counting-end}
-use Rattle.lossy.proofs.bytes.count.Statement.{statement}
-use Rattle.lossy.proofs.bytes.count.Tie as tie
+use Rattle.lossy_room.proofs.Counting.{Counting, counting-begin, counting-more, counting-end}
+use Rattle.lossy_room.proofs.ucs4.count.Statement.{statement}
+use Rattle.lossy_room.proofs.ucs4.count.Tie as tie
 
 abbrev Inv-loop : tie.InvT-loop
-Inv-loop form text at₀ count₀ at count = Counting (byteForm form) text at count
+Inv-loop text at₀ count₀ at count = Counting ucs4 text at count
 
 abbrev μ-loop : tie.MeasureT-loop
-μ-loop form text at₀ count₀ at count = length text - at
+μ-loop text at₀ count₀ at count = length text - at
 
 -- behind an item and its span
 abbrev Spanned : Type 0
@@ -25,7 +25,7 @@ loop c = c .before .before .before
 abbrev start : Spanned → tie.Start Inv-loop μ-loop
 start c = loop c .before .before
 
-read : (c : Spanned) → ItemAt (byteForm (start c .args .form)) (now (start c .args .text)) (loop c .loop .at) (c .before .item-at .result) (c .span .result)
+read : (c : Spanned) → ItemAt ucs4 (now (start c .args .text)) (loop c .loop .at) (c .before .item-at .result) (c .span .result)
 read c = item-at (c .before .before .loop-test .taken) (c .before .item-at .ensures) (c .span .ensures)
 
 loop-holds : tie.Need-loop-holds Inv-loop μ-loop

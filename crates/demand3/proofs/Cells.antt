@@ -11,6 +11,7 @@ use Rattle.types.specs.declared.Item.{Item}
 use Rattle.forms.specs.Form.{Sequence, sequence, units, size, Form, Content, character, mark, content, span, withSpan, spanOf, itemOf, itemsFrom}
 use Rattle.forms.specs.Lossy.{markValue, valueOf, offsetOf, markCount, marks}
 use Rattle.laws.proofs.Sequences.{joined}
+use Rattle.laws.proofs.Items.{length-items}
 use Rattle.laws.proofs.Spans.{item-span}
 
 -- what a content shows in the buffer of values
@@ -37,15 +38,11 @@ module _ (F : Form) where
   abbrev pub starts : ℕ → List Sequence → List ℕ
   starts p cs = map offsetOf (itemsFrom F p cs)
 
-  pub length-items : (p : ℕ) (cs : List Sequence) → length (itemsFrom F p cs) ≡ length cs
-  length-items p [] = refl
-  length-items p (c ∷ cs) = ap suc (length-items (p + size c) cs)
-
   pub length-values : (p : ℕ) (cs : List Sequence) → length (values p cs) ≡ length cs
-  length-values p cs = length-map (itemsFrom F p cs) valueOf ∙ length-items p cs
+  length-values p cs = length-map (itemsFrom F p cs) valueOf ∙ length-items F p cs
 
   pub length-starts : (p : ℕ) (cs : List Sequence) → length (starts p cs) ≡ length cs
-  length-starts p cs = length-map (itemsFrom F p cs) offsetOf ∙ length-items p cs
+  length-starts p cs = length-map (itemsFrom F p cs) offsetOf ∙ length-items F p cs
 
   offset-of : (p : ℕ) (c : Sequence) → offsetOf (itemOf F p c) ≡ p
   offset-of p c = ap (λ (x : Span). x .offset) (item-span F p c)

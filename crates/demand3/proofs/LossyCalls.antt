@@ -14,9 +14,9 @@ use Rattle.types.specs.declared.Decoding.the-variants.{Decoded, Refused}
 use Rattle.forms.specs.Fault.{limit, refusal}
 use Rattle.forms.specs.Form.{Form, items, encodeAll, AllEncodable}
 use Rattle.forms.specs.Lossy.{valueOf, offsetOf, marks, Outcome, decoded, refused, lossy, counts, answerOf, valuesIn, startsIn}
-use Rattle.lossy.specs.Demand3.{Parts, Demand3, DecodesLossy}
+use Rattle.demand3.specs.Demand3.{Parts, Demand3, DecodesLossy}
 use Rattle.laws.proofs.FormLaws.{Laws}
-use Rattle.lossy.proofs.ThreeParts.{three-count, three-marks, parts}
+use Rattle.demand3.proofs.ThreeParts.{three-count, three-marks, parts}
 
 -- when each outcome is
 module _ (F : Form) (s : List ℕ) (m n : ℕ) where
