@@ -2,5 +2,3 @@ pub mod WholeUnits
 pub mod Lengths
 pub mod Backward
 pub mod Targets
-pub mod UtfEbcdic
-pub mod FssUtf

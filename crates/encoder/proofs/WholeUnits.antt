@@ -1,4 +1,4 @@
--- The encodings of UTF-16 and UCS-4, and one or two units put into a buffer.
+-- The encodings of UTF-16 and UCS-4, and one to four units put into a buffer.
 use Prim.Native.Nat.{ℕ, zero, suc, _+_, _-_, _*_, _/_, _%_, _≤_, _<_}
 use mathlib.Core.Path.{_≡_, refl, sym, ap, _∙_}
 use mathlib.Core.Logic.{_≢_}

@@ -1,12 +1,8 @@
 // Writes the legal encoding of one value, by the width of the code units, and tells how long it is. These functions ask that the value
 // lies below 80000000 and that the room suffices: the calls of `conversion` ask nothing.
 pub mod bytes;
-pub mod fss_utf;
 pub mod ucs4;
 pub mod utf16;
-pub mod utf16_values;
-pub mod utf_ebcdic;
-pub mod values;
 
 use tables::ByteForm;
 ghost use mathlib.Core.Path.{_≡_};

@@ -44,7 +44,7 @@ fn byte_block(form: ByteForm, src: &[u32], at: usize, count: usize) -> usize
     requires { ⌜ (count ≤ 32) × (at + count ≤ length (now src)) ⌝ }
     ensures { λ r. ⌜ ((r ≡ 0 → ⊥) → Counted ucs4 (byteForm form) (now (src .entry)) at count r) ⌝ }
 {
-    let most = encoder::values::joined(src, at, count);
+    let most = block_encoder::values::joined(src, at, count);
     let two = tables::lowest(form, 1);
     if most < two {
         return count;

@@ -16,7 +16,7 @@ use Rattle.laws.proofs.Progress.{CharacterAt}
 use Rattle.laws.proofs.Runs.{Run, Convertible, Wrote, convertible-run}
 use Rattle.laws.proofs.Values.{AtMost, part, part-length, Encodable, Encoded, Room, singles-run, singles-encodable, singles-room, own-encodings, wrote-encoded}
 use Rattle.encoder.proofs.WholeUnits.{ucs4-encoding}
-use Rattle.encoder.proofs.FssUtf.{one-byte}
+use Rattle.block_encoder.proofs.FssUtf.{one-byte}
 use Rattle.utf16_runs.specs.Units.{isSurrogate, NoSurrogates}
 use Rattle.utf16_runs.proofs.Tests.{surrogate-false}
 use Rattle.utf16_runs.proofs.Pairs.{alone}

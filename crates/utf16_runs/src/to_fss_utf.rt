@@ -17,7 +17,7 @@ fn each(src: &[u16], at: usize, count: usize, dst: &mut [u8], written: usize) ->
     let mut end = written;
     while length < count {
         let next = crate::decode::decode(src, at + length);
-        end = encoder::fss_utf::write(next.value, dst, end);
+        end = block_encoder::fss_utf::write(next.value, dst, end);
         length += next.length;
     }
     Run {
@@ -61,7 +61,7 @@ fn block(src: &[u16], at: usize, count: usize, dst: &mut [u8], written: usize) -
     }
     let mut values = [0u32; 128];
     crate::decode::widen(src, at, count, &mut values, 0);
-    let end = encoder::fss_utf::write_all(&values, 0, count, dst, written);
+    let end = block_encoder::fss_utf::write_all(&values, 0, count, dst, written);
     Run {
         length: count,
         units: end - written,

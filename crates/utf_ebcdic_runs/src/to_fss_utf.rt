@@ -63,7 +63,7 @@ fn few(table: &[u8; 256], src: &[u8], at: usize, dst: &mut [u8], written: usize)
     while length < room {
         let lead = tables::ebcdic::exchanged(table, src[at + length]);
         if lead < 0x80 {
-            let end = encoder::fss_utf::write(crate::known::wide(lead), dst, written + units);
+            let end = block_encoder::fss_utf::write(crate::known::wide(lead), dst, written + units);
             length += 1;
             units = end - written;
             continue;
@@ -73,7 +73,7 @@ fn few(table: &[u8; 256], src: &[u8], at: usize, dst: &mut [u8], written: usize)
         if taken == 0 {
             return Run { length, units };
         }
-        let end = encoder::fss_utf::write(short.value, dst, written + units);
+        let end = block_encoder::fss_utf::write(short.value, dst, written + units);
         length += taken;
         units = end - written;
     }

@@ -19,7 +19,7 @@ pub fn write(src: &[u16], at: usize, dst: &mut [u8], written: usize) -> Run
         if taken == 0 {
             return Run { length, units };
         }
-        let end = encoder::utf_ebcdic::write(&table, short.value, dst, written + units);
+        let end = block_encoder::utf_ebcdic::write(&table, short.value, dst, written + units);
         length += taken;
         units = end - written;
     }

@@ -6,7 +6,7 @@ use Rattle.forms.specs.Exchange.{i8Of}
 use Rattle.laws.proofs.Blocks.{AtMost, at-most-none, at-most-or, Held, held-none, held-more, Copied, copied-none, copied-more}
 use Rattle.laws.proofs.Runs.{wrote-none}
 use Rattle.utf_ebcdic_runs.proofs.Exchanging.{exchanged-at, ascii-wrote}
-use Rattle.encoder.proofs.FssUtf.{one-byte}
+use Rattle.block_encoder.proofs.FssUtf.{one-byte}
 use borrow.Author.Needs.{needs}
 use native.Mathlib.Omega.{arith}
 use Rattle.utf_ebcdic_runs.proofs.to_fss_utf.copy8.Statement.{statement}

@@ -1,0 +1,2 @@
+pub mod UtfEbcdic
+pub mod FssUtf
