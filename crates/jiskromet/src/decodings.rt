@@ -1,8 +1,7 @@
 // The lossy decodings.
-use crate::JkDecoding;
-use crate::decoding_answer;
+use c_answers::JkDecoding;
 ghost use Rattle.forms.specs.Forms.{fssUtf, utfEbcdic, utf16, ucs4};
-ghost use Rattle.jiskromet.specs.Answer.{DecodesLossyInC};
+ghost use Rattle.jiskromet.specs.Promises.{DecodesLossyInC};
 
 #[no_mangle]
 pub extern "C" fn jk_fss_utf_decode_lossy(
@@ -12,7 +11,7 @@ pub extern "C" fn jk_fss_utf_decode_lossy(
 ) -> JkDecoding
     ensures { λ r. ⌜ DecodesLossyInC fssUtf (now (text .entry)) (now (values .entry)) (now (starts .entry)) r (now (values .exit)) (now (starts .exit)) ⌝ }
 {
-    decoding_answer(lossy::fss_utf_decode_lossy(text, values, starts))
+    c_answers::decoding_answer(lossy::fss_utf_decode_lossy(text, values, starts))
 }
 
 #[no_mangle]
@@ -23,7 +22,7 @@ pub extern "C" fn jk_utf_ebcdic_decode_lossy(
 ) -> JkDecoding
     ensures { λ r. ⌜ DecodesLossyInC utfEbcdic (now (text .entry)) (now (values .entry)) (now (starts .entry)) r (now (values .exit)) (now (starts .exit)) ⌝ }
 {
-    decoding_answer(lossy::utf_ebcdic_decode_lossy(text, values, starts))
+    c_answers::decoding_answer(lossy::utf_ebcdic_decode_lossy(text, values, starts))
 }
 
 #[no_mangle]
@@ -34,7 +33,7 @@ pub extern "C" fn jk_utf16_decode_lossy(
 ) -> JkDecoding
     ensures { λ r. ⌜ DecodesLossyInC utf16 (now (text .entry)) (now (values .entry)) (now (starts .entry)) r (now (values .exit)) (now (starts .exit)) ⌝ }
 {
-    decoding_answer(lossy::utf16_decode_lossy(text, values, starts))
+    c_answers::decoding_answer(lossy::utf16_decode_lossy(text, values, starts))
 }
 
 #[no_mangle]
@@ -45,5 +44,5 @@ pub extern "C" fn jk_ucs4_decode_lossy(
 ) -> JkDecoding
     ensures { λ r. ⌜ DecodesLossyInC ucs4 (now (text .entry)) (now (values .entry)) (now (starts .entry)) r (now (values .exit)) (now (starts .exit)) ⌝ }
 {
-    decoding_answer(lossy::ucs4_decode_lossy(text, values, starts))
+    c_answers::decoding_answer(lossy::ucs4_decode_lossy(text, values, starts))
 }

@@ -1,37 +1,24 @@
 // What a gateway links: the calls of the library under their C names, as `include/jiskromet.h` declares them.
 //
-// Each answer is a struct of numbers. `specs/Answer` says which number stands for which case.
+// Each answer is a struct of numbers: `specs/Answer` of `c_answers` says which number stands for which case, and `specs/Promises` here what
+// converters, measures and lossy decodings promise.
 pub mod conversions;
 pub mod decodings;
 pub mod starts;
 
+use c_answers::JkItem;
 use reader::Cursor;
-use reader::Step;
-use types::Conversion;
-use types::Decoding;
-use types::Item;
-use types::Refusal;
-use types::Start;
 ghost use mathlib.Core.Path.{_≡_};
 ghost use Rattle.forms.specs.Forms.{fssUtf, utfEbcdic, utf16, ucs4};
 ghost use Rattle.reader.specs.Step.{cursor, stepAt};
-ghost use Rattle.jiskromet.specs.Answer.{itemAnswer, shownItem, refusedItem, conversionAnswer, decodingAnswer, startAnswer};
-
-#[repr(C)]
-pub struct JkItem {
-    pub kind: u32,
-    pub fault: u32,
-    pub value: u32,
-    pub offset: u64,
-    pub length: u64,
-}
+ghost use Rattle.c_answers.specs.Answer.{itemAnswer};
 
 #[no_mangle]
 pub extern "C" fn jk_fss_utf_item_at(text: &[u8], offset: usize) -> JkItem
     ensures { λ r. ⌜ r ≡ itemAnswer (stepAt fssUtf (now (text .entry)) (cursor offset)) ⌝ }
 {
     let at = Cursor { offset };
-    item_answer(at.step_fss_utf(text))
+    c_answers::item_answer(at.step_fss_utf(text))
 }
 
 #[no_mangle]
@@ -39,7 +26,7 @@ pub extern "C" fn jk_utf_ebcdic_item_at(text: &[u8], offset: usize) -> JkItem
     ensures { λ r. ⌜ r ≡ itemAnswer (stepAt utfEbcdic (now (text .entry)) (cursor offset)) ⌝ }
 {
     let at = Cursor { offset };
-    item_answer(at.step_utf_ebcdic(text))
+    c_answers::item_answer(at.step_utf_ebcdic(text))
 }
 
 #[no_mangle]
@@ -47,7 +34,7 @@ pub extern "C" fn jk_utf16_item_at(text: &[u16], offset: usize) -> JkItem
     ensures { λ r. ⌜ r ≡ itemAnswer (stepAt utf16 (now (text .entry)) (cursor offset)) ⌝ }
 {
     let at = Cursor { offset };
-    item_answer(at.step_utf16(text))
+    c_answers::item_answer(at.step_utf16(text))
 }
 
 #[no_mangle]
@@ -55,151 +42,5 @@ pub extern "C" fn jk_ucs4_item_at(text: &[u32], offset: usize) -> JkItem
     ensures { λ r. ⌜ r ≡ itemAnswer (stepAt ucs4 (now (text .entry)) (cursor offset)) ⌝ }
 {
     let at = Cursor { offset };
-    item_answer(at.step_ucs4(text))
-}
-
-fn item_answer(step: Step) -> JkItem
-    ensures { λ r. ⌜ r ≡ itemAnswer step ⌝ }
-{
-    match step {
-        Step::End(at) => JkItem {
-            kind: 0,
-            fault: 0,
-            value: 0,
-            offset: at.offset as u64,
-            length: 0,
-        },
-        Step::Next(item, _) => shown_item(item),
-        Step::Refused(refusal) => refused_item(refusal),
-    }
-}
-
-fn shown_item(item: Item) -> JkItem
-    ensures { λ r. ⌜ r ≡ shownItem item ⌝ }
-{
-    match item {
-        Item::Character(value, span) => JkItem {
-            kind: 1,
-            fault: 0,
-            value,
-            offset: span.offset as u64,
-            length: span.length as u64,
-        },
-        Item::Mark(fault, span) => JkItem {
-            kind: 2,
-            fault: answers::number(fault),
-            value: 0,
-            offset: span.offset as u64,
-            length: span.length as u64,
-        },
-    }
-}
-
-fn refused_item(refusal: Refusal) -> JkItem
-    ensures { λ r. ⌜ r ≡ refusedItem refusal ⌝ }
-{
-    let fault = refusal.fault;
-    JkItem {
-        kind: 3,
-        fault: answers::number(fault),
-        value: 0,
-        offset: refusal.offset as u64,
-        length: 0,
-    }
-}
-
-#[repr(C)]
-pub struct JkConversion {
-    pub fault: u32,
-    pub offset: u64,
-    pub units: u64,
-}
-
-fn conversion_answer(conversion: Conversion) -> JkConversion
-    ensures { λ r. ⌜ r ≡ conversionAnswer conversion ⌝ }
-{
-    match conversion {
-        Conversion::Units(units) => JkConversion {
-            fault: 0,
-            offset: 0,
-            units: units as u64,
-        },
-        Conversion::Refused(refusal) => refused_conversion(refusal),
-    }
-}
-
-fn refused_conversion(refusal: Refusal) -> JkConversion
-    ensures { λ r. ⌜ r ≡ conversionAnswer (Conversion.Refused refusal) ⌝ }
-{
-    let fault = refusal.fault;
-    JkConversion {
-        fault: answers::number(fault),
-        offset: refusal.offset as u64,
-        units: 0,
-    }
-}
-
-#[repr(C)]
-pub struct JkDecoding {
-    pub fault: u32,
-    pub offset: u64,
-    pub items: u64,
-    pub marks: u64,
-}
-
-fn decoding_answer(decoding: Decoding) -> JkDecoding
-    ensures { λ r. ⌜ r ≡ decodingAnswer decoding ⌝ }
-{
-    match decoding {
-        Decoding::Decoded(counts) => JkDecoding {
-            fault: 0,
-            offset: 0,
-            items: counts.items as u64,
-            marks: counts.marks as u64,
-        },
-        Decoding::Refused(refusal) => refused_decoding(refusal),
-    }
-}
-
-fn refused_decoding(refusal: Refusal) -> JkDecoding
-    ensures { λ r. ⌜ r ≡ decodingAnswer (Decoding.Refused refusal) ⌝ }
-{
-    let fault = refusal.fault;
-    JkDecoding {
-        fault: answers::number(fault),
-        offset: refusal.offset as u64,
-        items: 0,
-        marks: 0,
-    }
-}
-
-#[repr(C)]
-pub struct JkStart {
-    pub fault: u32,
-    pub offset: u64,
-    pub start: u64,
-}
-
-fn start_answer(start: Start) -> JkStart
-    ensures { λ r. ⌜ r ≡ startAnswer start ⌝ }
-{
-    match start {
-        Start::At(offset) => JkStart {
-            fault: 0,
-            offset: 0,
-            start: offset as u64,
-        },
-        Start::Refused(refusal) => refused_start(refusal),
-    }
-}
-
-fn refused_start(refusal: Refusal) -> JkStart
-    ensures { λ r. ⌜ r ≡ startAnswer (Start.Refused refusal) ⌝ }
-{
-    let fault = refusal.fault;
-    JkStart {
-        fault: answers::number(fault),
-        offset: refusal.offset as u64,
-        start: 0,
-    }
+    c_answers::item_answer(at.step_ucs4(text))
 }

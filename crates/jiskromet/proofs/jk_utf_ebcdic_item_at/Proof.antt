@@ -1,6 +1,6 @@
 use borrow.Author.Needs.{needs}
 use mathlib.Core.Path.{ap, _∙_}
-use Rattle.jiskromet.specs.Answer.{itemAnswer}
+use Rattle.c_answers.specs.Answer.{itemAnswer}
 use Rattle.jiskromet.proofs.jk_utf_ebcdic_item_at.Statement.{statement}
 use Rattle.jiskromet.proofs.jk_utf_ebcdic_item_at.Tie as tie
 

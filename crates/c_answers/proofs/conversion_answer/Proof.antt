@@ -1,6 +1,6 @@
 use borrow.Author.Needs.{needs}
-use Rattle.jiskromet.proofs.conversion_answer.Statement.{statement}
-use Rattle.jiskromet.proofs.conversion_answer.Tie as tie
+use Rattle.c_answers.proofs.conversion_answer.Statement.{statement}
+use Rattle.c_answers.proofs.conversion_answer.Tie as tie
 
 enum-known-conversion : tie.Need-enum-known-conversion
 enum-known-conversion c = search needs

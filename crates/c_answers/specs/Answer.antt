@@ -1,8 +1,5 @@
 -- The numbers of an answer as C sees it: fault numbers, places and counts of document 01.
 use Prim.Native.Nat.{ℕ}
-use mathlib.Core.Path.{_≡_}
-use mathlib.Core.List.{List}
-use lib.ListN.{length}
 use Rattle.types.specs.declared.Item.{Item}
 use Rattle.types.specs.declared.Item.the-variants.{Character, Mark}
 use Rattle.types.specs.declared.Refusal.{Refusal}
@@ -14,15 +11,12 @@ use Rattle.types.specs.declared.Decoding.the-variants.{Decoded, Refused as NotD
 use Rattle.types.specs.declared.Start.{Start}
 use Rattle.types.specs.declared.Start.the-variants.{At, Refused as NoStart}
 use Rattle.forms.specs.Fault.{numberOf}
-use Rattle.forms.specs.Form.{Form}
-use Rattle.forms.specs.Conversion.{outcome, strict, answerOf, cellsOf}
-use Rattle.demand3.specs.Demand3.{DecodesLossy}
 use Rattle.reader.specs.declared.Step.{Step}
 use Rattle.reader.specs.declared.Step.the-variants.{Next, End, Refused}
-use Rattle.jiskromet.specs.declared.JkItem.{JkItem}
-use Rattle.jiskromet.specs.declared.JkConversion.{JkConversion}
-use Rattle.jiskromet.specs.declared.JkDecoding.{JkDecoding}
-use Rattle.jiskromet.specs.declared.JkStart.{JkStart}
+use Rattle.c_answers.specs.declared.JkItem.{JkItem}
+use Rattle.c_answers.specs.declared.JkConversion.{JkConversion}
+use Rattle.c_answers.specs.declared.JkDecoding.{JkDecoding}
+use Rattle.c_answers.specs.declared.JkStart.{JkStart}
 
 abbrev pub jkItem : ℕ → ℕ → ℕ → ℕ → ℕ → JkItem
 jkItem k f v p n = record { kind = k; fault = f; value = v; offset = p; length = n }
@@ -50,15 +44,6 @@ abbrev pub conversionAnswer : Conversion → JkConversion
 conversionAnswer (Units n) = jkConversion 0 0 n
 conversionAnswer (NoUnits r) = jkConversion (numberOf (r .fault)) (r .offset) 0
 
--- what a measure promises to C: its answer r
-pub record MeasuresInC (F G : Form) (s : List ℕ) (r : JkConversion) : Type 0 where
-  pub answer : r ≡ conversionAnswer (answerOf (outcome F G s))
-
--- what a converter promises to C: its answer r, and that the result buffer d became o
-pub record ConvertsInC (F G : Form) (s d : List ℕ) (r : JkConversion) (o : List ℕ) : Type 0 where
-  pub answer : r ≡ conversionAnswer (answerOf (strict F G s (length d)))
-  pub cells : o ≡ cellsOf (strict F G s (length d)) d
-
 abbrev pub jkDecoding : ℕ → ℕ → ℕ → ℕ → JkDecoding
 jkDecoding f p n m = record { fault = f; offset = p; items = n; marks = m }
 
@@ -66,12 +51,6 @@ jkDecoding f p n m = record { fault = f; offset = p; items = n; marks = m }
 abbrev pub decodingAnswer : Decoding → JkDecoding
 decodingAnswer (Decoded c) = jkDecoding 0 0 (c .items) (c .marks)
 decodingAnswer (NotDecoded r) = jkDecoding (numberOf (r .fault)) (r .offset) 0 0
-
--- what a lossy decoding promises to C: r has the numbers of a decoding that keeps the promise of the buffers d and e, which became o and p
-pub record DecodesLossyInC (F : Form) (s d e : List ℕ) (r : JkDecoding) (o p : List ℕ) : Type 0 where
-  pub decoding : Decoding
-  pub promised : DecodesLossy F s d e decoding o p
-  pub numbers : r ≡ decodingAnswer decoding
 
 abbrev pub jkStart : ℕ → ℕ → ℕ → JkStart
 jkStart f p n = record { fault = f; offset = p; start = n }

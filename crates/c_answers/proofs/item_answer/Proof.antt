@@ -1,6 +1,6 @@
 use borrow.Author.Needs.{needs}
-use Rattle.jiskromet.proofs.item_answer.Statement.{statement}
-use Rattle.jiskromet.proofs.item_answer.Tie as tie
+use Rattle.c_answers.proofs.item_answer.Statement.{statement}
+use Rattle.c_answers.proofs.item_answer.Tie as tie
 
 enum-known-step : tie.Need-enum-known-step
 enum-known-step c = search needs

@@ -1,6 +1,6 @@
 use borrow.Author.Needs.{needs}
-use Rattle.jiskromet.proofs.start_answer.Statement.{statement}
-use Rattle.jiskromet.proofs.start_answer.Tie as tie
+use Rattle.c_answers.proofs.start_answer.Statement.{statement}
+use Rattle.c_answers.proofs.start_answer.Tie as tie
 
 enum-known-start : tie.Need-enum-known-start
 enum-known-start c = search needs

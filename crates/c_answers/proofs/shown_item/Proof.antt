@@ -1,6 +1,6 @@
 use borrow.Author.Needs.{needs}
-use Rattle.jiskromet.proofs.shown_item.Statement.{statement}
-use Rattle.jiskromet.proofs.shown_item.Tie as tie
+use Rattle.c_answers.proofs.shown_item.Statement.{statement}
+use Rattle.c_answers.proofs.shown_item.Tie as tie
 
 enum-known-item : tie.Need-enum-known-item
 enum-known-item c = search needs

@@ -7,9 +7,10 @@ use Rattle.forms.specs.Form.{Form}
 use Rattle.forms.specs.Conversion.{Measures, Converts}
 use Rattle.types.specs.declared.Decoding.{Decoding}
 use Rattle.demand3.specs.Demand3.{DecodesLossy}
-use Rattle.jiskromet.specs.declared.JkConversion.{JkConversion}
-use Rattle.jiskromet.specs.declared.JkDecoding.{JkDecoding}
-use Rattle.jiskromet.specs.Answer.{conversionAnswer, MeasuresInC, ConvertsInC, decodingAnswer, DecodesLossyInC}
+use Rattle.c_answers.specs.declared.JkConversion.{JkConversion}
+use Rattle.c_answers.specs.declared.JkDecoding.{JkDecoding}
+use Rattle.c_answers.specs.Answer.{conversionAnswer, decodingAnswer}
+use Rattle.jiskromet.specs.Promises.{MeasuresInC, ConvertsInC, DecodesLossyInC}
 
 pub measures-in-c : {F G : Form} {s : List ℕ} {a : Conversion} {r : JkConversion} → r ≡ conversionAnswer a → Measures F G s a → MeasuresInC F G s r
 measures-in-c e m = record { answer = e ∙ ap conversionAnswer (m .answer) }

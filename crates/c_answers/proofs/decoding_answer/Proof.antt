@@ -1,6 +1,6 @@
 use borrow.Author.Needs.{needs}
-use Rattle.jiskromet.proofs.decoding_answer.Statement.{statement}
-use Rattle.jiskromet.proofs.decoding_answer.Tie as tie
+use Rattle.c_answers.proofs.decoding_answer.Statement.{statement}
+use Rattle.c_answers.proofs.decoding_answer.Tie as tie
 
 enum-known-decoding : tie.Need-enum-known-decoding
 enum-known-decoding c = search needs
