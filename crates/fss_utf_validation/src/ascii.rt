@@ -29,8 +29,21 @@ fn or16(src: &[u8], at: usize) -> u8
     joined
 }
 
+fn or_few(src: &[u8], at: usize, count: usize) -> u8
+    requires { ⌜ at + count ≤ length (now src) ⌝ }
+    ensures { λ r. ⌜ AtMost (now (src .entry)) at count r ⌝ }
+{
+    let mut joined: u8 = 0;
+    let mut i: usize = 0;
+    while i < count {
+        joined = joined | src[at + i];
+        i += 1;
+    }
+    joined
+}
+
 // How many bytes from an offset on are ASCII, in whole blocks.
-pub fn ascii_length(src: &[u8], at: usize) -> usize
+fn whole_blocks(src: &[u8], at: usize) -> usize
     requires { ⌜ at ≤ length (now src) ⌝ }
     ensures { λ r. ⌜ (at + r ≤ length (now (src .entry))) × AtMost (now (src .entry)) at r 127 ⌝ }
 {
@@ -48,4 +61,20 @@ pub fn ascii_length(src: &[u8], at: usize) -> usize
         length += 16;
     }
     length
+}
+
+// And with them what is left of the text, if it is less than a block and ASCII too.
+pub fn ascii_length(src: &[u8], at: usize) -> usize
+    requires { ⌜ at ≤ length (now src) ⌝ }
+    ensures { λ r. ⌜ (at + r ≤ length (now (src .entry))) × AtMost (now (src .entry)) at r 127 ⌝ }
+{
+    let length = whole_blocks(src, at);
+    let left = src.len() - (at + length);
+    if 16 <= left {
+        return length;
+    }
+    if 128 <= or_few(src, at + length, left) {
+        return length;
+    }
+    length + left
 }

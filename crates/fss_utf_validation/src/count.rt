@@ -79,12 +79,21 @@ fn block_length(src: &[u8], at: usize) -> usize
     crate::validation::last_lead(src, at, 64)
 }
 
-// So many bytes, put into a block of their own with zeros behind them.
+// So many bytes, put into a block of their own with zeros behind them: 16 at once, as far as they go.
 fn put(src: &[u8], at: usize, count: usize, block: &mut [u8])
     requires { ⌜ (count < 64) × (at + count ≤ length (now src)) × Padded (now src) at 0 (now block) ⌝ }
     ensures { λ r. ⌜ Padded (now (src .entry)) at count (now (block .exit)) ⌝ }
 {
     let mut i: usize = 0;
+    while 16 <= count - i {
+        let mut j: usize = 0;
+        while j < 16 {
+            let k = i + j;
+            block[3 + k] = src[at + k];
+            j += 1;
+        }
+        i += 16;
+    }
     while i < count {
         block[3 + i] = src[at + i];
         i += 1;
