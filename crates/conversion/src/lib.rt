@@ -12,7 +12,7 @@ ghost use Rattle.forms.specs.Conversion.{Measures, Converts};
 pub fn fss_utf_to_utf_ebcdic(src: &[u8], dst: &mut [u8]) -> Conversion
     ensures { λ r. ⌜ Converts fssUtf utfEbcdic (now (src .entry)) (now (dst .entry)) r (now (dst .exit)) ⌝ }
 {
-    transcode::bytes_to_bytes::convert(ByteForm::FssUtf, ByteForm::UtfEbcdic, src, dst)
+    transcode_from_bytes::bytes_to_bytes::convert(ByteForm::FssUtf, ByteForm::UtfEbcdic, src, dst)
 }
 
 pub fn fss_utf_to_utf_ebcdic_length(src: &[u8]) -> Conversion
@@ -24,7 +24,7 @@ pub fn fss_utf_to_utf_ebcdic_length(src: &[u8]) -> Conversion
 pub fn fss_utf_to_utf16(src: &[u8], dst: &mut [u16]) -> Conversion
     ensures { λ r. ⌜ Converts fssUtf utf16 (now (src .entry)) (now (dst .entry)) r (now (dst .exit)) ⌝ }
 {
-    transcode::bytes_to_utf16::convert(ByteForm::FssUtf, src, dst)
+    transcode_from_bytes::bytes_to_utf16::convert(ByteForm::FssUtf, src, dst)
 }
 
 pub fn fss_utf_to_utf16_length(src: &[u8]) -> Conversion
@@ -36,7 +36,7 @@ pub fn fss_utf_to_utf16_length(src: &[u8]) -> Conversion
 pub fn fss_utf_to_ucs4(src: &[u8], dst: &mut [u32]) -> Conversion
     ensures { λ r. ⌜ Converts fssUtf ucs4 (now (src .entry)) (now (dst .entry)) r (now (dst .exit)) ⌝ }
 {
-    transcode::bytes_to_ucs4::convert(ByteForm::FssUtf, src, dst)
+    transcode_from_bytes::bytes_to_ucs4::convert(ByteForm::FssUtf, src, dst)
 }
 
 pub fn fss_utf_to_ucs4_length(src: &[u8]) -> Conversion
@@ -48,7 +48,7 @@ pub fn fss_utf_to_ucs4_length(src: &[u8]) -> Conversion
 pub fn utf_ebcdic_to_fss_utf(src: &[u8], dst: &mut [u8]) -> Conversion
     ensures { λ r. ⌜ Converts utfEbcdic fssUtf (now (src .entry)) (now (dst .entry)) r (now (dst .exit)) ⌝ }
 {
-    transcode::bytes_to_bytes::convert(ByteForm::UtfEbcdic, ByteForm::FssUtf, src, dst)
+    transcode_from_bytes::bytes_to_bytes::convert(ByteForm::UtfEbcdic, ByteForm::FssUtf, src, dst)
 }
 
 pub fn utf_ebcdic_to_fss_utf_length(src: &[u8]) -> Conversion
@@ -60,7 +60,7 @@ pub fn utf_ebcdic_to_fss_utf_length(src: &[u8]) -> Conversion
 pub fn utf_ebcdic_to_utf16(src: &[u8], dst: &mut [u16]) -> Conversion
     ensures { λ r. ⌜ Converts utfEbcdic utf16 (now (src .entry)) (now (dst .entry)) r (now (dst .exit)) ⌝ }
 {
-    transcode::bytes_to_utf16::convert(ByteForm::UtfEbcdic, src, dst)
+    transcode_from_bytes::bytes_to_utf16::convert(ByteForm::UtfEbcdic, src, dst)
 }
 
 pub fn utf_ebcdic_to_utf16_length(src: &[u8]) -> Conversion
@@ -72,7 +72,7 @@ pub fn utf_ebcdic_to_utf16_length(src: &[u8]) -> Conversion
 pub fn utf_ebcdic_to_ucs4(src: &[u8], dst: &mut [u32]) -> Conversion
     ensures { λ r. ⌜ Converts utfEbcdic ucs4 (now (src .entry)) (now (dst .entry)) r (now (dst .exit)) ⌝ }
 {
-    transcode::bytes_to_ucs4::convert(ByteForm::UtfEbcdic, src, dst)
+    transcode_from_bytes::bytes_to_ucs4::convert(ByteForm::UtfEbcdic, src, dst)
 }
 
 pub fn utf_ebcdic_to_ucs4_length(src: &[u8]) -> Conversion
@@ -84,7 +84,7 @@ pub fn utf_ebcdic_to_ucs4_length(src: &[u8]) -> Conversion
 pub fn utf16_to_fss_utf(src: &[u16], dst: &mut [u8]) -> Conversion
     ensures { λ r. ⌜ Converts utf16 fssUtf (now (src .entry)) (now (dst .entry)) r (now (dst .exit)) ⌝ }
 {
-    transcode::utf16_to_bytes::convert(ByteForm::FssUtf, src, dst)
+    transcode_from_units::utf16_to_bytes::convert(ByteForm::FssUtf, src, dst)
 }
 
 pub fn utf16_to_fss_utf_length(src: &[u16]) -> Conversion
@@ -96,7 +96,7 @@ pub fn utf16_to_fss_utf_length(src: &[u16]) -> Conversion
 pub fn utf16_to_utf_ebcdic(src: &[u16], dst: &mut [u8]) -> Conversion
     ensures { λ r. ⌜ Converts utf16 utfEbcdic (now (src .entry)) (now (dst .entry)) r (now (dst .exit)) ⌝ }
 {
-    transcode::utf16_to_bytes::convert(ByteForm::UtfEbcdic, src, dst)
+    transcode_from_units::utf16_to_bytes::convert(ByteForm::UtfEbcdic, src, dst)
 }
 
 pub fn utf16_to_utf_ebcdic_length(src: &[u16]) -> Conversion
@@ -108,7 +108,7 @@ pub fn utf16_to_utf_ebcdic_length(src: &[u16]) -> Conversion
 pub fn utf16_to_ucs4(src: &[u16], dst: &mut [u32]) -> Conversion
     ensures { λ r. ⌜ Converts utf16 ucs4 (now (src .entry)) (now (dst .entry)) r (now (dst .exit)) ⌝ }
 {
-    transcode::utf16_to_ucs4::convert(src, dst)
+    transcode_from_units::utf16_to_ucs4::convert(src, dst)
 }
 
 pub fn utf16_to_ucs4_length(src: &[u16]) -> Conversion
@@ -120,7 +120,7 @@ pub fn utf16_to_ucs4_length(src: &[u16]) -> Conversion
 pub fn ucs4_to_fss_utf(src: &[u32], dst: &mut [u8]) -> Conversion
     ensures { λ r. ⌜ Converts ucs4 fssUtf (now (src .entry)) (now (dst .entry)) r (now (dst .exit)) ⌝ }
 {
-    transcode::ucs4_to_bytes::convert(ByteForm::FssUtf, src, dst)
+    transcode_from_units::ucs4_to_bytes::convert(ByteForm::FssUtf, src, dst)
 }
 
 pub fn ucs4_to_fss_utf_length(src: &[u32]) -> Conversion
@@ -132,7 +132,7 @@ pub fn ucs4_to_fss_utf_length(src: &[u32]) -> Conversion
 pub fn ucs4_to_utf_ebcdic(src: &[u32], dst: &mut [u8]) -> Conversion
     ensures { λ r. ⌜ Converts ucs4 utfEbcdic (now (src .entry)) (now (dst .entry)) r (now (dst .exit)) ⌝ }
 {
-    transcode::ucs4_to_bytes::convert(ByteForm::UtfEbcdic, src, dst)
+    transcode_from_units::ucs4_to_bytes::convert(ByteForm::UtfEbcdic, src, dst)
 }
 
 pub fn ucs4_to_utf_ebcdic_length(src: &[u32]) -> Conversion
@@ -144,7 +144,7 @@ pub fn ucs4_to_utf_ebcdic_length(src: &[u32]) -> Conversion
 pub fn ucs4_to_utf16(src: &[u32], dst: &mut [u16]) -> Conversion
     ensures { λ r. ⌜ Converts ucs4 utf16 (now (src .entry)) (now (dst .entry)) r (now (dst .exit)) ⌝ }
 {
-    transcode::ucs4_to_utf16::convert(src, dst)
+    transcode_from_units::ucs4_to_utf16::convert(src, dst)
 }
 
 pub fn ucs4_to_utf16_length(src: &[u32]) -> Conversion

@@ -30,3 +30,4 @@ pub mod ReadUnits
 pub mod Blocks
 pub mod Values
 pub mod Moved
+pub mod Writing
