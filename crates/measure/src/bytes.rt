@@ -18,7 +18,7 @@ fn count_run(form: ByteForm, target: Target, src: &[u8], at: usize) -> Run
 {
     match form {
         ByteForm::FssUtf => fss_utf_validation::count::count(target, src, at),
-        ByteForm::UtfEbcdic => utf_ebcdic_runs::count::count(target, src, at),
+        ByteForm::UtfEbcdic => utf_ebcdic_count::count::count(target, src, at),
     }
 }
 

@@ -1,2 +1,1 @@
-pub mod Exchanging
 pub mod KnownBytes

@@ -57,7 +57,7 @@ fn few(table: &[u8; 256], src: &[u8], at: usize, dst: &mut [u8], written: usize)
     requires { ⌜ Tabulates i8Of (now table) × (at ≤ length (now src)) × Convertible utfEbcdic fssUtf (now src) at written (length (now dst)) ⌝ }
     ensures { λ r. ⌜ Wrote utfEbcdic fssUtf (now (src .entry)) at (r .length) (r .units) (now (dst .entry)) written (now (dst .exit)) ⌝ }
 {
-    let room = crate::count::bounded(src.len() - at);
+    let room = utf_ebcdic_count::count::bounded(src.len() - at);
     let mut length: usize = 0;
     let mut units: usize = 0;
     while length < room {

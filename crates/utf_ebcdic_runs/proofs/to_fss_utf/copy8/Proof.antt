@@ -5,7 +5,7 @@ use denote.Ref.{now}
 use Rattle.forms.specs.Exchange.{i8Of}
 use Rattle.laws.proofs.Blocks.{AtMost, at-most-none, at-most-or, Held, held-none, held-more, Copied, copied-none, copied-more}
 use Rattle.laws.proofs.Runs.{wrote-none}
-use Rattle.utf_ebcdic_runs.proofs.Exchanging.{exchanged-at, ascii-wrote}
+use Rattle.utf_ebcdic_count.proofs.Exchanging.{exchanged-at, ascii-wrote}
 use Rattle.block_encoder.proofs.FssUtf.{one-byte}
 use borrow.Author.Needs.{needs}
 use native.Mathlib.Omega.{arith}

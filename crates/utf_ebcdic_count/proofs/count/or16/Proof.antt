@@ -4,11 +4,11 @@ use mathlib.Core.List.{map}
 use denote.Ref.{now}
 use Rattle.forms.specs.Exchange.{i8Of}
 use Rattle.laws.proofs.Blocks.{AtMost, at-most-none, at-most-or, at-most-all}
-use Rattle.utf_ebcdic_runs.proofs.Exchanging.{exchanged-at}
+use Rattle.utf_ebcdic_count.proofs.Exchanging.{exchanged-at}
 use borrow.Author.Needs.{needs}
 use native.Mathlib.Omega.{arith}
-use Rattle.utf_ebcdic_runs.proofs.count.or16.Statement.{statement}
-use Rattle.utf_ebcdic_runs.proofs.count.or16.Tie as tie
+use Rattle.utf_ebcdic_count.proofs.count.or16.Statement.{statement}
+use Rattle.utf_ebcdic_count.proofs.count.or16.Tie as tie
 
 abbrev Inv-loop : tie.InvT-loop
 Inv-loop table src at joined₀ i₀ joined i = (i ≤ 16) × AtMost (map i8Of src) at i joined

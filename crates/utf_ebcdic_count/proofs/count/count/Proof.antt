@@ -1,7 +1,7 @@
-use Rattle.utf_ebcdic_runs.proofs.Exchanging.{ascii-counted}
+use Rattle.utf_ebcdic_count.proofs.Exchanging.{ascii-counted}
 use borrow.Author.Needs.{needs}
-use Rattle.utf_ebcdic_runs.proofs.count.count.Statement.{statement}
-use Rattle.utf_ebcdic_runs.proofs.count.count.Tie as tie
+use Rattle.utf_ebcdic_count.proofs.count.count.Statement.{statement}
+use Rattle.utf_ebcdic_count.proofs.count.count.Tie as tie
 
 exchange-table-requires : tie.Need-exchange-table-requires
 exchange-table-requires c κs = search needs

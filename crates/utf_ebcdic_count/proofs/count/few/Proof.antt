@@ -9,11 +9,11 @@ use Rattle.laws.proofs.Runs.{Counted, counted-none, counted-join}
 use Rattle.laws.proofs.FourForms.{utfEbcdic-laws}
 use Rattle.encoder.specs.Target.{targetForm}
 use Rattle.encoder.proofs.Targets.{counted-ascii, counted-more}
-use Rattle.utf_ebcdic_runs.proofs.Exchanging.{single-at}
+use Rattle.utf_ebcdic_count.proofs.Exchanging.{single-at}
 use borrow.Author.Needs.{needs}
 use native.Mathlib.Omega.{arith}
-use Rattle.utf_ebcdic_runs.proofs.count.few.Statement.{statement}
-use Rattle.utf_ebcdic_runs.proofs.count.few.Tie as tie
+use Rattle.utf_ebcdic_count.proofs.count.few.Statement.{statement}
+use Rattle.utf_ebcdic_count.proofs.count.few.Tie as tie
 
 abbrev Inv-loop : tie.InvT-loop
 Inv-loop table target src at room length₀ units₀ length units = Counted utfEbcdic (targetForm target) src at length units

@@ -5,8 +5,8 @@ use Rattle.forms.specs.Exchange.{i8Of}
 use Rattle.laws.proofs.Blocks.{AtMost, at-most-none, at-most-join, at-most-looser}
 use borrow.Author.Needs.{needs}
 use native.Mathlib.Omega.{arith}
-use Rattle.utf_ebcdic_runs.proofs.count.ascii_length.Statement.{statement}
-use Rattle.utf_ebcdic_runs.proofs.count.ascii_length.Tie as tie
+use Rattle.utf_ebcdic_count.proofs.count.ascii_length.Statement.{statement}
+use Rattle.utf_ebcdic_count.proofs.count.ascii_length.Tie as tie
 
 abbrev Inv-loop : tie.InvT-loop
 Inv-loop table src at length₀ length = (at + length ≤ lib.ListN.length src) × AtMost (map i8Of src) at length 127
