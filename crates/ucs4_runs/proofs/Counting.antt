@@ -249,3 +249,11 @@ counted-utf16 s at k i c =
     rw (← q)
     (counted-units utf16 s at k i
     (λ j b. let u = c .each refl j b in (omega (arith, u .below), some (encode utf16 (getD s (at + j) 0)) _ (held-length (getD s (at + j) 0) u), encode-seven Target.Utf16 (getD s (at + j) 0))))
+
+-- units below the surrogates are a unit each
+pub utf16-one : {s : List ℕ} {at k m : ℕ} → at + k ≤ length s → AtMost s at k m → m < 0xD800 → Counted ucs4 utf16 s at k k
+utf16-one {s} {at} {k} {m} i a h =
+    let one : (j : ℕ) → j < k → length (encode utf16 (getD s (at + j) 0)) ≡ 1 = λ j b. ap length (below-surrogates (getD s (at + j) 0) (omega (arith, a .each j b))) in
+    let q : sum (λ i. length (encode utf16 (getD s i 0))) at k ≡ k = sum-same (λ i. length (encode utf16 (getD s i 0))) (λ i. 1) at k one ∙ sum-ones at k in
+    rw q at
+    (counted-units utf16 s at k i (λ j b. (omega (arith, a .each j b), some (encode utf16 (getD s (at + j) 0)) 0 (one j b), encode-seven Target.Utf16 (getD s (at + j) 0))))

@@ -95,6 +95,17 @@ fn utf16_block(src: &[u32], at: usize, count: usize) -> usize
     wide(sum)
 }
 
+// The same, looking first whether all units lie below the surrogates, as most do.
+fn utf16_units(src: &[u32], at: usize, count: usize) -> usize
+    requires { ⌜ (count ≤ 32) × (at + count ≤ length (now src)) ⌝ }
+    ensures { λ r. ⌜ ((r ≡ 0 → ⊥) → Counted ucs4 utf16 (now (src .entry)) at count r) ⌝ }
+{
+    if block_encoder::values::joined(src, at, count) < 0xD800 {
+        return count;
+    }
+    utf16_block(src, at, count)
+}
+
 fn block(target: Target, src: &[u32], at: usize, count: usize) -> usize
     requires { ⌜ (count ≤ 32) × (at + count ≤ length (now src)) ⌝ }
     ensures { λ r. ⌜ ((r ≡ 0 → ⊥) → Counted ucs4 (targetForm target) (now (src .entry)) at count r) ⌝ }
@@ -102,7 +113,7 @@ fn block(target: Target, src: &[u32], at: usize, count: usize) -> usize
     match target {
         Target::FssUtf => byte_block(ByteForm::FssUtf, src, at, count),
         Target::UtfEbcdic => byte_block(ByteForm::UtfEbcdic, src, at, count),
-        Target::Utf16 => utf16_block(src, at, count),
+        Target::Utf16 => utf16_units(src, at, count),
         Target::Ucs4 => 0,
     }
 }

@@ -18,8 +18,8 @@ byte-block-requires-2 c κs = search needs
 enum-told-3 : tie.Need-enum-told-3
 enum-told-3 c = search needs
 
-utf16-block-requires : tie.Need-utf16-block-requires
-utf16-block-requires c κs = search needs
+utf16-units-requires : tie.Need-utf16-units-requires
+utf16-units-requires c κs = search needs
 
 enum-told-4 : tie.Need-enum-told-4
 enum-told-4 c = search needs
@@ -31,7 +31,7 @@ returns-2 : tie.Need-returns-2
 returns-2 c = λ z. rw (c .before .enum-told2 .given .1) (c .byte-block2 .ensures z)
 
 returns-3 : tie.Need-returns-3
-returns-3 c = λ z. rw (c .before .enum-told3 .given .1) (c .utf16-block .ensures z)
+returns-3 c = λ z. rw (c .before .enum-told3 .given .1) (c .utf16-units .ensures z)
 
 returns-4 : tie.Need-returns-4
 returns-4 c = λ z. absurd (z refl)
@@ -45,7 +45,7 @@ block-spec =
     enum-told-2
     byte-block-requires-2
     enum-told-3
-    utf16-block-requires
+    utf16-units-requires
     enum-told-4
     returns
     returns-2
