@@ -12,19 +12,11 @@ use lib.ListN.{length, getD, set, replicate, length-set, length-replicate, getD-
 use lib.Seq.{getD-set-same, getD-set-other}
 use borrow.Author.Tests.{lt-leb, lt-ltb, le-ltb}
 use Rattle.laws.proofs.Runs.{sum, sum-zero, sum-more, sum-join, sum-most}
-use Rattle.laws.proofs.Values.{sum-plus, sum-ones, sum-none}
+use Rattle.laws.proofs.Values.{sum-plus, sum-ones, sum-none, neither-left, neither-right}
 use Rattle.laws.proofs.Moved.{sum-along}
 use Rattle.laws.proofs.Blocks.{Each, each-none, each-more, each-join, each-all}
 use Rattle.fss_utf_validation.specs.declared.weights.Weights.{Weights}
 use Rattle.fss_utf_validation.specs.Validation.{isTrailingByte, illFormed, illFormedAt, Validated, bit, reached, splits, added, addedAt, leadAt, reachedAt, splitAt, LeadWeights, Blocks, Bordered, Whole, Padded}
-
-pub or-left : (a b : Bool) → (a || b) ≡ false → a ≡ false
-or-left true b h = h
-or-left false b h = refl
-
-pub or-right : (a b : Bool) → (a || b) ≡ false → b ≡ false
-or-right true b h = absurd (let z : _≡_ {A = ℕ} 0 1 = cc in omega arith)
-or-right false b h = h
 
 pub bit-most : (x : Bool) → bit x ≤ 1
 bit-most true = omega arith
@@ -87,7 +79,7 @@ module _ {s : List ℕ} {at : ℕ} where
 
   pub joined-more : {n : ℕ} {b x : Bool} → Joined s at n b → x ≡ illFormedAt s (at + n) → Joined s at (n + 1) (b || x)
   joined-more {n} {b} {x} j e =
-      record { clean = λ h. record { all = each-more (j .clean (or-left b x h) .all) (sym e ∙ or-right b x h) } }
+      record { clean = λ h. record { all = each-more (j .clean (neither-left b x h) .all) (sym e ∙ neither-right b x h) } }
 
   pub joined-end : {n : ℕ} {b : Bool} (m : ℕ) → Joined s at n b → n ≤ m → m ≤ n → b ≡ false → Validated s at m
   joined-end m j h k e = record { all = each-all m (j .clean e .all) h k }

@@ -17,29 +17,19 @@ use Rattle.laws.proofs.Progress.{CharacterAt}
 use Rattle.laws.proofs.ReadUnits.{read-units, behind-one, behind-two, behind-three}
 use Rattle.laws.proofs.Runs.{Counted, counted-none, sum, sum-zero, sum-more, sum-join, Next, between}
 use Rattle.laws.proofs.Moved.{counted-moved}
+use Rattle.laws.proofs.Table.{and-left, and-right}
+use Rattle.laws.proofs.Values.{neither-left as or-left, neither-right as or-right, and-false}
 use Rattle.tables.proofs.ByteLayouts.{not-excluded}
 use Rattle.tables.specs.declared.ByteForm.the-variants.{FssUtf}
 use Rattle.fss_utf_validation.specs.declared.weights.Weights.{Weights}
 use Rattle.fss_utf_validation.specs.Validation.{isTrailingByte, asksTrailing, noByte, noSecond, illFormed, illFormedAt, Validated, added, addedAt, value2, value3, value4, LeadWeights, Weighs, Weighed, Bordered, Whole, Padded}
-use Rattle.fss_utf_validation.proofs.Validating.{or-left, or-right, zeros-add}
+use Rattle.fss_utf_validation.proofs.Validating.{zeros-add}
 
 same : (a b : Bool) → not (Bool·beq a b) ≡ false → a ≡ b
 same true true h = refl
 same true false h = h
 same false true h = sym h
 same false false h = refl
-
-and-left : (a b : Bool) → (a && b) ≡ true → a ≡ true
-and-left true b h = refl
-and-left false b h = h
-
-and-right : (a b : Bool) → (a && b) ≡ true → b ≡ true
-and-right true b h = h
-and-right false b h = absurd (let z : _≡_ {A = ℕ} 0 1 = cc in omega arith)
-
-and-false : (a b : Bool) → (a && b) ≡ false → a ≡ true → b ≡ false
-and-false true b h e = h
-and-false false b h e = absurd (let z : _≡_ {A = ℕ} 0 1 = cc in omega arith)
 
 or-true : (a b : Bool) → b ≡ true → (a || b) ≡ true
 or-true true b h = refl
