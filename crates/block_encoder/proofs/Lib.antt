@@ -1,2 +1,3 @@
 pub mod UtfEbcdic
 pub mod FssUtf
+pub mod Twos

@@ -1,14 +1,32 @@
 // FSS-UTF, fast: one value by straight code, and several values at once. `laws/proofs/Values` says what is asked and promised of several.
 use tables::ByteForm;
 ghost use mathlib.Core.Path.{_≡_};
-ghost use Prim.Native.Nat.{_+_, _<_, _≤_};
-ghost use lib.ListN.{length};
+ghost use Prim.Native.Nat.{_+_, _%_, _<_, _≤_};
+ghost use lib.ListN.{length, getD, set};
 ghost use Rattle.forms.specs.Form.{encode};
 ghost use Rattle.forms.specs.Forms.{fssUtf};
 ghost use Rattle.forms.specs.Buffer.{withUnits};
 ghost use Rattle.laws.proofs.Values.{AtLeast, AtMost, Encodable, Encoded, Room};
 
-fn three(value: u32, dst: &mut [u8], at: usize) -> usize
+// Values of one, two, three and four bytes.
+pub fn one(value: u32, dst: &mut [u8], at: usize) -> usize
+    requires { ⌜ (value < 0x80) × (at + length (encode fssUtf value) ≤ length (now dst)) ⌝ }
+    ensures { λ r. ⌜ (r ≡ at + length (encode fssUtf value)) × (now (dst .exit) ≡ withUnits (now (dst .entry)) at (encode fssUtf value)) ⌝ }
+{
+    dst[at] = value as u8;
+    at + 1
+}
+
+pub fn two(value: u32, dst: &mut [u8], at: usize) -> usize
+    requires { ⌜ (0x80 ≤ value) × (value < 0x800) × (at + length (encode fssUtf value) ≤ length (now dst)) ⌝ }
+    ensures { λ r. ⌜ (r ≡ at + length (encode fssUtf value)) × (now (dst .exit) ≡ withUnits (now (dst .entry)) at (encode fssUtf value)) ⌝ }
+{
+    dst[at] = (0xC0 + value / 64) as u8;
+    dst[at + 1] = (0x80 + value % 64) as u8;
+    at + 2
+}
+
+pub fn three(value: u32, dst: &mut [u8], at: usize) -> usize
     requires { ⌜ (0x800 ≤ value) × (value < 0x10000) × (at + length (encode fssUtf value) ≤ length (now dst)) ⌝ }
     ensures { λ r. ⌜ (r ≡ at + length (encode fssUtf value)) × (now (dst .exit) ≡ withUnits (now (dst .entry)) at (encode fssUtf value)) ⌝ }
 {
@@ -18,31 +36,64 @@ fn three(value: u32, dst: &mut [u8], at: usize) -> usize
     at + 3
 }
 
+pub fn four(value: u32, dst: &mut [u8], at: usize) -> usize
+    requires { ⌜ (0x10000 ≤ value) × (value < 0x200000) × (at + length (encode fssUtf value) ≤ length (now dst)) ⌝ }
+    ensures { λ r. ⌜ (r ≡ at + length (encode fssUtf value)) × (now (dst .exit) ≡ withUnits (now (dst .entry)) at (encode fssUtf value)) ⌝ }
+{
+    dst[at] = (0xF0 + value / 262144) as u8;
+    dst[at + 1] = (0x80 + value / 4096 % 64) as u8;
+    dst[at + 2] = (0x80 + value / 64 % 64) as u8;
+    dst[at + 3] = (0x80 + value % 64) as u8;
+    at + 4
+}
+
 // What `encoder::bytes::write` does for FSS-UTF.
 pub fn write(value: u32, dst: &mut [u8], at: usize) -> usize
     requires { ⌜ (value < 0x80000000) × (at + length (encode fssUtf value) ≤ length (now dst)) ⌝ }
     ensures { λ r. ⌜ (r ≡ at + length (encode fssUtf value)) × (now (dst .exit) ≡ withUnits (now (dst .entry)) at (encode fssUtf value)) ⌝ }
 {
     if value < 0x80 {
-        dst[at] = value as u8;
-        return at + 1;
+        return one(value, dst, at);
     }
     if value < 0x800 {
-        dst[at] = (0xC0 + value / 64) as u8;
-        dst[at + 1] = (0x80 + value % 64) as u8;
-        return at + 2;
+        return two(value, dst, at);
     }
     if value < 0x10000 {
         return three(value, dst, at);
     }
     if value < 0x200000 {
-        dst[at] = (0xF0 + value / 262144) as u8;
-        dst[at + 1] = (0x80 + value / 4096 % 64) as u8;
-        dst[at + 2] = (0x80 + value / 64 % 64) as u8;
-        dst[at + 3] = (0x80 + value % 64) as u8;
-        return at + 4;
+        return four(value, dst, at);
     }
     encoder::bytes::write(ByteForm::FssUtf, value, dst, at)
+}
+
+// The first byte of a value below 800, and how many bytes it has: no branch.
+fn lead(value: u32) -> u8
+    requires { ⌜ value < 0x800 ⌝ }
+    ensures { λ r. ⌜ r ≡ getD (encode fssUtf value) 0 0 ⌝ }
+{
+    if value < 0x80 {
+        value as u8
+    } else {
+        (0xC0 + value / 64) as u8
+    }
+}
+
+fn size(value: u32) -> usize
+    requires { ⌜ value < 0x800 ⌝ }
+    ensures { λ r. ⌜ r ≡ length (encode fssUtf value) ⌝ }
+{
+    if value < 0x80 { 1 } else { 2 }
+}
+
+// A value below 800 as two bytes, of which the second counts only if the value has two: no branch.
+pub fn overrun(value: u32, dst: &mut [u8], at: usize) -> usize
+    requires { ⌜ (value < 0x800) × (at + 1 < length (now dst)) ⌝ }
+    ensures { λ r. ⌜ (r ≡ at + length (encode fssUtf value)) × (now (dst .exit) ≡ set (set (now (dst .entry)) at (getD (encode fssUtf value) 0 0)) (at + 1) (0x80 + value % 64)) ⌝ }
+{
+    dst[at] = lead(value);
+    dst[at + 1] = (0x80 + value % 64) as u8;
+    at + size(value)
 }
 
 // Values below 80: each is its byte.
@@ -71,6 +122,24 @@ fn each(values: &[u32], from: usize, count: usize, dst: &mut [u8], at: usize) ->
     end
 }
 
+// Values below 800, each over the byte too many of the one before it: no branch. The last is written exactly.
+fn twos(values: &[u32], from: usize, count: usize, dst: &mut [u8], at: usize) -> usize
+    requires { ⌜ (Encodable fssUtf (now values) from count) × (Room fssUtf (now values) from count at (length (now dst))) × (AtMost (now values) from count 0x7FF) ⌝ }
+    ensures { λ r. ⌜ Encoded fssUtf (now (values .entry)) from count (now (dst .entry)) at r (now (dst .exit)) ⌝ }
+{
+    if count == 0 {
+        return at;
+    }
+    let last = count - 1;
+    let mut end = at;
+    let mut k: usize = 0;
+    while k < last {
+        end = overrun(values[from + k], dst, end);
+        k += 1;
+    }
+    write(values[from + last], dst, end)
+}
+
 // Values of three bytes each: no branch.
 fn threes(values: &[u32], from: usize, count: usize, dst: &mut [u8], at: usize) -> usize
     requires { ⌜ (Encodable fssUtf (now values) from count) × (Room fssUtf (now values) from count at (length (now dst))) × (AtMost (now values) from count 0xFFFF) × (AtLeast (now values) from count 0x800) ⌝ }
@@ -93,10 +162,24 @@ fn block(values: &[u32], from: usize, count: usize, dst: &mut [u8], at: usize) -
     if most < 0x80 {
         return copy(values, from, count, dst, at);
     }
+    if most < 0x800 {
+        return twos(values, from, count, dst, at);
+    }
     if most < 0x10000 {
         if crate::values::all_reach(values, from, count, 0x800) {
             return threes(values, from, count, dst, at);
         }
+    }
+    each(values, from, count, dst, at)
+}
+
+// Fewer values than a block has: the tests for short and long ones would cost more than they save.
+fn rest(values: &[u32], from: usize, count: usize, dst: &mut [u8], at: usize) -> usize
+    requires { ⌜ (Encodable fssUtf (now values) from count) × (Room fssUtf (now values) from count at (length (now dst))) ⌝ }
+    ensures { λ r. ⌜ Encoded fssUtf (now (values .entry)) from count (now (dst .entry)) at r (now (dst .exit)) ⌝ }
+{
+    if crate::values::joined(values, from, count) < 0x80 {
+        return copy(values, from, count, dst, at);
     }
     each(values, from, count, dst, at)
 }
@@ -112,5 +195,5 @@ pub fn write_all(values: &[u32], from: usize, count: usize, dst: &mut [u8], at: 
         end = block(values, from + done, 128, dst, end);
         done += 128;
     }
-    block(values, from + done, count - done, dst, end)
+    rest(values, from + done, count - done, dst, end)
 }

@@ -31,3 +31,4 @@ pub mod Blocks
 pub mod Values
 pub mod Moved
 pub mod Writing
+pub mod Spare

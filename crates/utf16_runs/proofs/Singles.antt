@@ -5,9 +5,7 @@ use mathlib.Core.Logic.{_≢_}
 use mathlib.Core.Bool.{false}
 use mathlib.Core.List.{List, [], _∷_, _++_}
 use native.Mathlib.Omega.{arith}
-use native.Mathlib.Nat.{zero-add}
-use lib.ListN.{length, getD, drop, length-append}
-use lib.Seq.{take-at, getD-take, getD-drop}
+use lib.ListN.{length, getD}
 use borrow.Author.Tests.{lt-leb}
 use Rattle.forms.specs.Form.{Form, encode, encodeAll, span}
 use Rattle.forms.specs.Forms.{utf16, fssUtf, ucs4}
@@ -21,11 +19,11 @@ use Rattle.utf16_runs.specs.Units.{isSurrogate, NoSurrogates}
 use Rattle.utf16_runs.proofs.Tests.{surrogate-false}
 use Rattle.utf16_runs.proofs.Pairs.{alone}
 
--- ASCII has no surrogates
-pub ascii-plain : {s : List ℕ} {at k : ℕ} → AtMost s at k 0x7F → NoSurrogates s at k
-ascii-plain {s} {at} {k} a = record { each = λ j b. below (getD s (at + j) 0) (a .each j b) }
+-- units below the surrogates
+pub low-plain : {s : List ℕ} {at k m : ℕ} → AtMost s at k m → m < 0xD800 → NoSurrogates s at k
+low-plain {s} {at} {k} {m} a l = record { each = λ j b. below (getD s (at + j) 0) (a .each j b) }
   where
-    below : (u : ℕ) → u ≤ 0x7F → isSurrogate u ≡ false
+    below : (u : ℕ) → u ≤ m → isSurrogate u ≡ false
     below u h = rw (lt-leb 0xD800 u (omega arith))
 
 module _
@@ -53,29 +51,15 @@ module _
     own-wrote : {d o : List ℕ} → o ≡ withUnits d n (part s at k) → Wrote utf16 G s at k k d n o
     own-wrote e = record { out = part s at k; run = rw same at plain-run; counted = sym (part-length s at k inside); cells = e }
 
-  -- units written through a local array b
-  module _ {b : List ℕ} (z : List ℕ) (e : b ≡ withUnits z 0 (part s at k)) where
-    local-part : part b 0 k ≡ part s at k
-    local-part = rw e (take-at (part s at k) (drop (0 + length (part s at k)) z) k (part-length s at k inside))
+  -- units whose encodings are written
+  pub plain-encodable : Encodable G s at k
+  plain-encodable = singles-encodable c inside next
 
-    local-unit : (j : ℕ) → j < k → getD b (0 + j) 0 ≡ getD s (at + j) 0
-    local-unit j h =
-        let l : getD (part b 0 k) j 0 ≡ getD b (0 + j) 0 = getD-take k (drop 0 b) j 0 h ∙ getD-drop 0 b j 0 in
-        let r : getD (part s at k) j 0 ≡ getD s (at + j) 0 = getD-take k (drop at s) j 0 h ∙ getD-drop at s j 0 in
-        sym l ∙ ap (λ (x : List ℕ). getD x j 0) local-part ∙ r
+  pub plain-room : Room G s at k n m
+  plain-room = singles-room c inside next
 
-    pub local-encodable : Encodable G b 0 k
-    local-encodable =
-        record {
-          inside = omega (arith, ap length e, length-append (part s at k) (drop (0 + length (part s at k)) z), part-length s at k inside);
-          each = λ j h. rw (local-unit j h) (singles-encodable c inside next .each j h);
-        }
-
-    pub local-room : Room G b 0 k n m
-    local-room = record { fits = rw local-part (singles-room c inside next .fits) }
-
-    pub local-wrote : {d o : List ℕ} {u : ℕ} → Encoded G b 0 k d n u o → Wrote utf16 G s at k (u - n) d n o
-    local-wrote x = wrote-encoded {from = 0} {c = k} {b = b} (rw local-part plain-run) x
+  pub plain-wrote : {d o : List ℕ} {u : ℕ} → Encoded G s at k d n u o → Wrote utf16 G s at k (u - n) d n o
+  plain-wrote x = wrote-encoded plain-run x
 
 -- ASCII to FSS-UTF, and any to UCS-4
 module _ {s : List ℕ} {at n m k : ℕ} (c : Convertible utf16 fssUtf s at n m) (inside : at + k ≤ length s) (units : (i : ℕ) → getD s i 0 < 0x10000) (a : AtMost s at k 0x7F) where
@@ -83,10 +67,10 @@ module _ {s : List ℕ} {at n m k : ℕ} (c : Convertible utf16 fssUtf s at n m)
   own j h = one-byte (getD s (at + j) 0) (omega (arith, a .each j h))
 
   pub ascii-room : n + k ≤ m
-  ascii-room = own-room c inside units (ascii-plain a) own
+  ascii-room = own-room c inside units (low-plain a (omega arith)) own
 
   pub ascii-wrote : {d o : List ℕ} → o ≡ withUnits d n (part s at k) → Wrote utf16 fssUtf s at k k d n o
-  ascii-wrote e = own-wrote c inside units (ascii-plain a) own e
+  ascii-wrote e = own-wrote c inside units (low-plain a (omega arith)) own e
 
 module _ {s : List ℕ} {at n m k : ℕ} (c : Convertible utf16 ucs4 s at n m) (inside : at + k ≤ length s) (units : (i : ℕ) → getD s i 0 < 0x10000) (p : NoSurrogates s at k) where
   value : (j : ℕ) → j < k → encode ucs4 (getD s (at + j) 0) ≡ getD s (at + j) 0 ∷ []

@@ -17,6 +17,14 @@ use Rattle.utf16_runs.specs.Units.{isHigh, isLow, isSurrogate, Paired, N
 pub differ : {A : Type 0} {b : Bool} → b ≡ true → b ≡ false → A
 differ p q = absurd (let z : _≡_ {A = ℕ} 0 1 = cc in omega arith)
 
+pub not-true : (b : Bool) → not b ≡ true → b ≡ false
+not-true true e = sym e
+not-true false e = refl
+
+pub not-false : (b : Bool) → not b ≡ false → b ≡ true
+not-false true e = refl
+not-false false e = sym e
+
 pub high-bounds : (u : ℕ) → isHigh u ≡ true → (0xD800 ≤ u) × (u < 0xDC00)
 high-bounds u e = (leb-true 0xD800 u (and-left (leb 0xD800 u) (ltb u 0xDC00) e), ltb-true u 0xDC00 (and-right (leb 0xD800 u) (ltb u 0xDC00) e))
 
@@ -31,6 +39,9 @@ low-false u e h = ltb-false u 0xE000 (and-false (leb 0xDC00 u) (ltb u 0xE000) e 
 
 pub surrogate-false : (u : ℕ) → isSurrogate u ≡ false → 0xD800 ≤ u → 0xE000 ≤ u
 surrogate-false u e h = ltb-false u 0xE000 (and-false (leb 0xD800 u) (ltb u 0xE000) e (le-leb 0xD800 u h))
+
+pub surrogate-bounds : (u : ℕ) → isSurrogate u ≡ true → (0xD800 ≤ u) × (u < 0xE000)
+surrogate-bounds u e = (leb-true 0xD800 u (and-left (leb 0xD800 u) (ltb u 0xE000) e), ltb-true u 0xE000 (and-right (leb 0xD800 u) (ltb u 0xE000) e))
 
 -- a low unit is no high one
 pub low-not-high : (u : ℕ) → isLow u ≡ true → isHigh u ≡ false

@@ -1,7 +1,7 @@
 // Characters of a text that the measure has accepted, read without tests.
 ghost use mathlib.Core.Path.{_≡_};
-ghost use Prim.Native.Nat.{_+_, _≤_};
-ghost use lib.ListN.{length};
+ghost use Prim.Native.Nat.{_+_, _<_, _≤_};
+ghost use lib.ListN.{length, getD};
 ghost use Rattle.forms.specs.Form.{span};
 ghost use Rattle.forms.specs.Forms.{utf16};
 ghost use Rattle.forms.specs.Buffer.{withUnits};
@@ -15,10 +15,20 @@ pub struct Decoded {
     pub length: usize,
 }
 
-fn wide(unit: u16) -> u32
+pub fn wide(unit: u16) -> u32
     ensures { λ r. ⌜ r ≡ unit ⌝ }
 {
     unit as u32
+}
+
+// The value of a pair.
+pub fn pair(src: &[u16], at: usize) -> u32
+    requires { ⌜ (Stands utf16 (now src) at) × (0xD800 ≤ getD (now src) at 0) × (getD (now src) at 0 < 0xE000) ⌝ }
+    ensures { λ r. ⌜ (CharacterAt utf16 (now (src .entry)) at r (span at 2)) × (0x10000 ≤ r) × (r < 0x110000) ⌝ }
+{
+    let unit = wide(src[at]);
+    let next = wide(src[at + 1]);
+    0x10000 + (unit - 0xD800) * 0x400 + (next - 0xDC00)
 }
 
 pub fn decode(src: &[u16], at: usize) -> Decoded
@@ -38,9 +48,8 @@ pub fn decode(src: &[u16], at: usize) -> Decoded
             length: 1,
         };
     }
-    let next = wide(src[at + 1]);
     Decoded {
-        value: 0x10000 + (unit - 0xD800) * 0x400 + (next - 0xDC00),
+        value: pair(src, at),
         length: 2,
     }
 }

@@ -6,9 +6,9 @@ ghost use lib.ListN.{length};
 ghost use Rattle.forms.specs.Forms.{utf16, fssUtf};
 ghost use Rattle.forms.specs.Buffer.{withUnits};
 ghost use Rattle.laws.proofs.Runs.{Convertible, Wrote};
-ghost use Rattle.laws.proofs.Values.{AtMost, part};
+ghost use Rattle.laws.proofs.Values.{AtMost, Encodable, Encoded, Room, part};
 
-// Character by character, until so many units have passed.
+// Character by character, until so many units have passed. Each length has its own way round the loop.
 fn each(src: &[u16], at: usize, count: usize, dst: &mut [u8], written: usize) -> Run
     requires { ⌜ (at + count ≤ length (now src)) × (Convertible utf16 fssUtf (now src) at written (length (now dst))) ⌝ }
     ensures { λ r. ⌜ (Wrote utf16 fssUtf (now (src .entry)) at (r .length) (r .units) (now (dst .entry)) written (now (dst .exit))) × (count ≤ r .length) ⌝ }
@@ -16,9 +16,24 @@ fn each(src: &[u16], at: usize, count: usize, dst: &mut [u8], written: usize) ->
     let mut length: usize = 0;
     let mut end = written;
     while length < count {
-        let next = crate::decode::decode(src, at + length);
-        end = block_encoder::fss_utf::write(next.value, dst, end);
-        length += next.length;
+        let unit = src[at + length];
+        if unit < 0x80 {
+            end = block_encoder::fss_utf::one(crate::decode::wide(unit), dst, end);
+            length += 1;
+            continue;
+        }
+        if unit < 0x800 {
+            end = block_encoder::fss_utf::two(crate::decode::wide(unit), dst, end);
+            length += 1;
+            continue;
+        }
+        if !crate::blocks::surrogate(unit) {
+            end = block_encoder::fss_utf::three(crate::decode::wide(unit), dst, end);
+            length += 1;
+            continue;
+        }
+        end = block_encoder::fss_utf::four(crate::decode::pair(src, at + length), dst, end);
+        length += 2;
     }
     Run {
         length: length,
@@ -45,8 +60,49 @@ fn copy(src: &[u16], at: usize, count: usize, dst: &mut [u8], written: usize)
     }
 }
 
+// Units below 800, each over the byte too many of the one before it: no branch. The last is written exactly.
+fn twos(src: &[u16], at: usize, count: usize, dst: &mut [u8], written: usize) -> usize
+    requires { ⌜ (Encodable fssUtf (now src) at count) × (Room fssUtf (now src) at count written (length (now dst))) × (AtMost (now src) at count 0x7FF) ⌝ }
+    ensures { λ r. ⌜ Encoded fssUtf (now (src .entry)) at count (now (dst .entry)) written r (now (dst .exit)) ⌝ }
+{
+    if count == 0 {
+        return written;
+    }
+    let last = count - 1;
+    let mut end = written;
+    let mut k: usize = 0;
+    while k < last {
+        end = block_encoder::fss_utf::overrun(crate::decode::wide(src[at + k]), dst, end);
+        k += 1;
+    }
+    block_encoder::fss_utf::write(crate::decode::wide(src[at + last]), dst, end)
+}
+
 fn block(src: &[u16], at: usize, count: usize, dst: &mut [u8], written: usize) -> Run
-    requires { ⌜ (count ≤ 128) × (at + count ≤ length (now src)) × (Convertible utf16 fssUtf (now src) at written (length (now dst))) ⌝ }
+    requires { ⌜ (at + count ≤ length (now src)) × (Convertible utf16 fssUtf (now src) at written (length (now dst))) ⌝ }
+    ensures { λ r. ⌜ (Wrote utf16 fssUtf (now (src .entry)) at (r .length) (r .units) (now (dst .entry)) written (now (dst .exit))) × (count ≤ r .length) ⌝ }
+{
+    let most = crate::blocks::joined(src, at, count);
+    if most < 0x80 {
+        copy(src, at, count, dst, written);
+        return Run {
+            length: count,
+            units: count,
+        };
+    }
+    if most < 0x800 {
+        let end = twos(src, at, count, dst, written);
+        return Run {
+            length: count,
+            units: end - written,
+        };
+    }
+    each(src, at, count, dst, written)
+}
+
+// Fewer units than a block has: the test for short ones would cost more than it saves.
+fn rest(src: &[u16], at: usize, count: usize, dst: &mut [u8], written: usize) -> Run
+    requires { ⌜ (at + count ≤ length (now src)) × (Convertible utf16 fssUtf (now src) at written (length (now dst))) ⌝ }
     ensures { λ r. ⌜ (Wrote utf16 fssUtf (now (src .entry)) at (r .length) (r .units) (now (dst .entry)) written (now (dst .exit))) × (count ≤ r .length) ⌝ }
 {
     if crate::blocks::joined(src, at, count) < 0x80 {
@@ -56,16 +112,7 @@ fn block(src: &[u16], at: usize, count: usize, dst: &mut [u8], written: usize) -
             units: count,
         };
     }
-    if crate::blocks::surrogates(src, at, count) {
-        return each(src, at, count, dst, written);
-    }
-    let mut values = [0u32; 128];
-    crate::decode::widen(src, at, count, &mut values, 0);
-    let end = block_encoder::fss_utf::write_all(&values, 0, count, dst, written);
-    Run {
-        length: count,
-        units: end - written,
-    }
+    each(src, at, count, dst, written)
 }
 
 // The whole rest of a text that the measure has accepted, in blocks of 128: shorter ones are compiled to slower code.
@@ -80,8 +127,8 @@ pub fn write(src: &[u16], at: usize, dst: &mut [u8], written: usize) -> Run
         length += run.length;
         end += run.units;
     }
-    let rest = src.len() - at - length;
-    let run = block(src, at + length, rest, dst, end);
+    let left = src.len() - at - length;
+    let run = rest(src, at + length, left, dst, end);
     Run {
         length: length + run.length,
         units: end + run.units - written,

@@ -42,14 +42,14 @@ loop-again c =
     let p = l .before .before .before .pre in
     (omega (arith, c .before .before .before .before .loop-test .taken), encoded-join (p .1) (l .loop .inv .0) (l .loop .inv .1) (c .before .before .block .ensures))
 
-add-block-2 : tie.Need-add-block-2 Inv-loop μ-loop
-add-block-2 c = omega (arith, c .before .before .before .before .pre .0 .inside, c .before .before .before .before .good)
+add-rest : tie.Need-add-rest Inv-loop μ-loop
+add-rest c = omega (arith, c .before .before .before .before .pre .0 .inside, c .before .before .before .before .good)
 
-sub-block : tie.Need-sub-block Inv-loop μ-loop
-sub-block c = search needs
+sub-rest : tie.Need-sub-rest Inv-loop μ-loop
+sub-rest c = search needs
 
-block-requires-2 : tie.Need-block-requires-2 Inv-loop μ-loop
-block-requires-2 c κs =
+rest-requires : tie.Need-rest-requires Inv-loop μ-loop
+rest-requires c κs =
     let l = c .before .before in
     let p = l .before .before .before .pre in
     let k = l .loop .done in
@@ -61,12 +61,12 @@ same-length : tie.Need-same-length Inv-loop μ-loop
 same-length c =
     let l = c .before .before .before .before .before in
     let p = l .before .before .before .pre in
-    encoded-length (p .1) (encoded-last (p .1) (l .loop .inv .0) (l .loop .inv .1) (c .before .before .block2 .ensures)) (omega arith)
+    encoded-length (p .1) (encoded-last (p .1) (l .loop .inv .0) (l .loop .inv .1) (c .before .before .rest .ensures)) (omega arith)
 
 returns : tie.Need-returns Inv-loop μ-loop
 returns c =
     let l = c .before .before .before .before .before in
-    encoded-last (l .before .before .before .pre .1) (l .loop .inv .0) (l .loop .inv .1) (c .before .before .block2 .ensures)
+    encoded-last (l .before .before .before .pre .1) (l .loop .inv .0) (l .loop .inv .1) (c .before .before .rest .ensures)
 
 pub write-all-spec : {M : Type 1} → statement M
 write-all-spec =
@@ -81,8 +81,8 @@ write-all-spec =
     add-done
     loop-less
     loop-again
-    add-block-2
-    sub-block
-    block-requires-2
+    add-rest
+    sub-rest
+    rest-requires
     same-length
     returns)

@@ -1,10 +1,17 @@
+use mathlib.Core.Path.{_≡_}
 use native.Mathlib.Omega.{arith}
-use lib.ListN.{replicate}
-use Rattle.laws.proofs.Values.{at-most-within}
-use Rattle.utf16_runs.proofs.Singles.{ascii-room, ascii-wrote, local-encodable, local-room, local-wrote}
+use denote.Ref.{now}
+use Rattle.laws.proofs.Values.{AtMost, at-most-within}
+use Rattle.utf16_runs.proofs.Singles.{low-plain, ascii-room, ascii-wrote, plain-encodable, plain-room, plain-wrote}
 use borrow.Author.Needs.{needs}
 use Rattle.utf16_runs.proofs.to_fss_utf.block.Statement.{statement}
 use Rattle.utf16_runs.proofs.to_fss_utf.block.Tie as tie
+
+ascii : (t : tie.Then1) → let z = t .before .before .before .before .args in AtMost (now (z .src)) (z .at) (z .count) 0x7F
+ascii t = at-most-within 0x7F (t .before .joined .ensures) (omega (arith, t .if1 .taken))
+
+short : (t : tie.Then2) → let z = t .before .before .before .before .before .args in AtMost (now (z .src)) (z .at) (z .count) 0x7FF
+short t = at-most-within 0x7FF (t .before .before .joined .ensures) (omega (arith, t .if2 .taken))
 
 joined-requires : tie.Need-joined-requires
 joined-requires c κs = search needs
@@ -13,8 +20,8 @@ copy-requires : tie.Need-copy-requires
 copy-requires c κs =
     let k = c .before .before .before .before in
     let p = k .before .pre in
-    let a = at-most-within 0x7F (c .before .before .joined .ensures) (omega (arith, c .before .if1 .taken)) in
-    (p .1, ascii-room (p .2) (p .1) (λ i. omega (arith, k .shared-slice-known .given i)) a, a)
+    let a = ascii (c .before) in
+    (p .0, ascii-room (p .1) (p .0) (λ i. omega (arith, k .shared-slice-known .given i)) a, a)
 
 same-length : tie.Need-same-length
 same-length c = search needs
@@ -23,51 +30,35 @@ returns : tie.Need-returns
 returns c =
     let k = c .before .before .before .before .before .before .before in
     let p = k .before .pre in
-    let a = at-most-within 0x7F (c .before .before .before .before .before .joined .ensures) (omega (arith, c .before .before .before .before .if1 .taken)) in
-    (ascii-wrote (p .2) (p .1) (λ i. omega (arith, k .shared-slice-known .given i)) a (c .before .before .copy .ensures), omega arith)
+    (ascii-wrote (p .1) (p .0) (λ i. omega (arith, k .shared-slice-known .given i)) (ascii (c .before .before .before .before)) (c .before .before .copy .ensures), omega arith)
 
-surrogates-requires : tie.Need-surrogates-requires
-surrogates-requires c κs = search needs
+twos-requires : tie.Need-twos-requires
+twos-requires c κs =
+    let k = c .before .before .before .before .before in
+    let p = k .before .pre in
+    let a = short (c .before) in
+    (plain-encodable (p .1) (p .0) (λ i. omega (arith, k .shared-slice-known .given i)) (low-plain a (omega arith)), plain-room (p .1) (p .0) (λ i. omega (arith, k .shared-slice-known .given i)) (low-plain a (omega arith)), a)
 
-each-requires : tie.Need-each-requires
-each-requires c κs = search needs
+sub-t14 : tie.Need-sub-t14
+sub-t14 c = omega (arith, c .before .before .twos .ensures .counted)
 
 same-length-2 : tie.Need-same-length-2
 same-length-2 c = search needs
 
 returns-2 : tie.Need-returns-2
-returns-2 c = search needs
+returns-2 c =
+    let k = c .before .before .before .before .before .before .before .before in
+    let p = k .before .pre in
+    (plain-wrote (p .1) (p .0) (λ i. omega (arith, k .shared-slice-known .given i)) (low-plain (short (c .before .before .before .before)) (omega arith)) (c .before .before .twos .ensures), omega arith)
 
-slice-aggregate-widen : tie.Need-slice-aggregate-widen
-slice-aggregate-widen c = search needs
-
-widen-requires : tie.Need-widen-requires
-widen-requires c κs = search needs
-
-slice-aggregate-write-all : tie.Need-slice-aggregate-write-all
-slice-aggregate-write-all c = search needs
-
-write-all-requires : tie.Need-write-all-requires
-write-all-requires c κs =
-    let s = c .before .before .before .before .before in
-    let k = s .before .before .before .before .before in
-    let p = k .before .pre in (
-      local-encodable (p .2) (p .1) (λ i. omega (arith, k .shared-slice-known .given i)) (s .before .surrogates .ensures (s .if2 .left)) (replicate 128 0) (c .before .before .before .widen .ensures),
-      local-room (p .2) (p .1) (λ i. omega (arith, k .shared-slice-known .given i)) (s .before .surrogates .ensures (s .if2 .left)) (replicate 128 0) (c .before .before .before .widen .ensures),
-    )
-
-sub-t23 : tie.Need-sub-t23
-sub-t23 c = search needs
+each-requires : tie.Need-each-requires
+each-requires c κs = search needs
 
 same-length-3 : tie.Need-same-length-3
 same-length-3 c = search needs
 
 returns-3 : tie.Need-returns-3
-returns-3 c =
-    let s = c .before .before .before .before .before .before .before .before in
-    let k = s .before .before .before .before .before in
-    let p = k .before .pre in
-    (local-wrote (p .2) (p .1) (λ i. omega (arith, k .shared-slice-known .given i)) (s .before .surrogates .ensures (s .if2 .left)) (replicate 128 0) (c .before .before .before .before .before .before .widen .ensures) (c .before .before .write-all .ensures), omega arith)
+returns-3 c = search needs
 
 pub block-spec : {M : Type 1} → statement M
 block-spec =
@@ -77,14 +68,10 @@ block-spec =
     copy-requires
     same-length
     returns
-    surrogates-requires
-    each-requires
+    twos-requires
+    sub-t14
     same-length-2
     returns-2
-    slice-aggregate-widen
-    widen-requires
-    slice-aggregate-write-all
-    write-all-requires
-    sub-t23
+    each-requires
     same-length-3
     returns-3)

@@ -30,7 +30,7 @@ block-requires : tie.Need-block-requires Inv-loop μ-loop
 block-requires c κs =
     let l = c .before .before in
     let x = l .before .before .before in
-    (omega arith, omega (arith, c .before .loop-test .taken, l .loop .inv .run .inside), written-left (x .pre .1) (l .loop .inv))
+    (omega (arith, c .before .loop-test .taken, l .loop .inv .run .inside), written-left (x .pre .1) (l .loop .inv))
 
 add-length : tie.Need-add-length Inv-loop μ-loop
 add-length c = search needs
@@ -53,20 +53,20 @@ loop-again c =
     let b = c .before .before .before .before .block in
     written-run (x .pre .1) (l .loop .inv) (b .ensures .0)
 
-sub-rest : tie.Need-sub-rest Inv-loop μ-loop
-sub-rest c = search needs
+sub-left : tie.Need-sub-left Inv-loop μ-loop
+sub-left c = search needs
 
-sub-rest-2 : tie.Need-sub-rest-2 Inv-loop μ-loop
-sub-rest-2 c = search needs
+sub-left-2 : tie.Need-sub-left-2 Inv-loop μ-loop
+sub-left-2 c = search needs
 
-add-block-2 : tie.Need-add-block-2 Inv-loop μ-loop
-add-block-2 c = search needs
+add-rest : tie.Need-add-rest Inv-loop μ-loop
+add-rest c = search needs
 
-block-requires-2 : tie.Need-block-requires-2 Inv-loop μ-loop
-block-requires-2 c κs =
+rest-requires : tie.Need-rest-requires Inv-loop μ-loop
+rest-requires c κs =
     let l = c .before .before in
     let x = l .before .before .before in
-    (omega (arith, c .before .loop-test .left), omega (arith, l .loop .inv .run .inside), written-left (x .pre .1) (l .loop .inv))
+    (omega (arith, l .loop .inv .run .inside), written-left (x .pre .1) (l .loop .inv))
 
 add-t17 : tie.Need-add-t17 Inv-loop μ-loop
 add-t17 c = search needs
@@ -75,7 +75,7 @@ add-t16 : tie.Need-add-t16 Inv-loop μ-loop
 add-t16 c =
     let l = c .before .before .before .before .before .before .before in
     let x = l .before .before .before in
-    let b = c .before .before .before .before .block2 in
+    let b = c .before .before .before .before .rest in
     let w = written-within (x .pre .1) (written-run (x .pre .1) (l .loop .inv) (b .ensures .0)) in
     omega (arith, w .1, x .good)
 
@@ -83,21 +83,21 @@ sub-t20 : tie.Need-sub-t20 Inv-loop μ-loop
 sub-t20 c =
     let l = c .before .before .before .before .before .before .before in
     let x = l .before .before .before in
-    let b = c .before .before .before .before .block2 in
+    let b = c .before .before .before .before .rest in
     omega (arith, written-within (x .pre .1) (written-run (x .pre .1) (l .loop .inv) (b .ensures .0)) .0)
 
 same-length : tie.Need-same-length Inv-loop μ-loop
 same-length c =
     let l = c .before .before .before .before .before .before .before in
     let x = l .before .before .before in
-    let b = c .before .before .before .before .block2 in
+    let b = c .before .before .before .before .rest in
     written-length (x .pre .1) (written-run (x .pre .1) (l .loop .inv) (b .ensures .0))
 
 returns : tie.Need-returns Inv-loop μ-loop
 returns c =
     let l = c .before .before .before .before .before .before .before in
     let x = l .before .before .before in
-    let b = c .before .before .before .before .block2 in
+    let b = c .before .before .before .before .rest in
     written-wrote (written-run (x .pre .1) (l .loop .inv) (b .ensures .0))
 
 pub write-spec : {M : Type 1} → statement M
@@ -115,10 +115,10 @@ write-spec =
     add-end
     loop-less
     loop-again
-    sub-rest
-    sub-rest-2
-    add-block-2
-    block-requires-2
+    sub-left
+    sub-left-2
+    add-rest
+    rest-requires
     add-t17
     add-t16
     sub-t20

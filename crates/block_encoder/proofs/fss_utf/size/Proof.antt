@@ -1,0 +1,18 @@
+use native.Mathlib.Omega.{arith}
+use mathlib.Core.Path.{_≡_, ap, sym}
+use mathlib.Core.List.{List}
+use Prim.Native.Nat.{ℕ}
+use lib.ListN.{length, getD}
+use Rattle.block_encoder.proofs.FssUtf.{one-byte, two-bytes}
+use borrow.Author.Needs.{needs}
+use Rattle.block_encoder.proofs.fss_utf.size.Statement.{statement}
+use Rattle.block_encoder.proofs.fss_utf.size.Tie as tie
+
+returns : tie.Need-returns
+returns c = sym (ap length (one-byte (c .before .args .value) (c .if1 .taken)))
+
+returns-2 : tie.Need-returns-2
+returns-2 c = sym (ap length (two-bytes (c .before .args .value) (c .if1 .left) (c .before .pre)))
+
+pub size-spec : {M : Type 1} → statement M
+size-spec = tie.close (tie.spec returns returns-2)
