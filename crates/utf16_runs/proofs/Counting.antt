@@ -103,7 +103,7 @@ module _
       let e : at + k - at ≡ k = omega arith in
       rw e at (between border a at (at + k) next k at (omega arith) (omega arith) (omega arith) (w .inside) (λ y. w .first (omega arith)))
 
-number-most : (x : Bool) → number x ≤ 1
+pub number-most : (x : Bool) → number x ≤ 1
 number-most true = omega arith
 number-most false = omega arith
 

@@ -2,3 +2,4 @@ pub mod Tests
 pub mod Pairs
 pub mod Counting
 pub mod Singles
+pub mod Midway

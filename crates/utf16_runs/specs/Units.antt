@@ -50,6 +50,13 @@ pub record Whole (s : List ℕ) (at k : ℕ) : Type 0 where
   pub first : 0 < k → isLow (getD s at 0) ≡ false
   pub last : (j : ℕ) → j + 1 ≡ k → isHigh (getD s (at + j) 0) ≡ false
 
+-- the last character of k units begins at the unit r: a low unit at the end belongs to it
+pub record LastCharacter (s : List ℕ) (at k r : ℕ) : Type 0 where
+  pub inside : r < k
+  pub near : k ≤ r + 2
+  pub alone : r + 1 ≡ k → isLow (getD s (at + r) 0) ≡ false
+  pub paired : r + 2 ≡ k → isLow (getD s (at + (r + 1)) 0) ≡ true
+
 -- units below it are one unit of the target each
 abbrev pub plainOf : Target → ℕ
 plainOf FssUtf = 0x80

@@ -1,9 +1,12 @@
 // To UCS-4.
 use types::Run;
-ghost use Prim.Native.Nat.{_+_, _≤_};
+ghost use mathlib.Core.Path.{_≡_};
+ghost use mathlib.Core.Bool.{true, false, not};
+ghost use Prim.Native.Nat.{_+_, _-_, _*_, _≤_};
 ghost use lib.ListN.{length};
 ghost use Rattle.forms.specs.Forms.{utf16, ucs4};
 ghost use Rattle.laws.proofs.Runs.{Convertible, Wrote};
+ghost use Rattle.utf16_runs.specs.Units.{isHigh, isLow, number, LastCharacter};
 
 // Character by character, until so many units have passed.
 fn each(src: &[u16], at: usize, count: usize, dst: &mut [u32], written: usize) -> Run
@@ -23,12 +26,65 @@ fn each(src: &[u16], at: usize, count: usize, dst: &mut [u32], written: usize) -
     }
 }
 
+// The unit's value, or the pair's where the unit is a high one: no branch.
+fn value(unit: u16, next: u16) -> u32
+    requires { ⌜ (isHigh unit ≡ true → isLow next ≡ true) ⌝ }
+    ensures { λ r. ⌜ (isHigh unit ≡ true → r ≡ 0x10000 + (unit - 0xD800) * 0x400 + (next - 0xDC00)) × (isHigh unit ≡ false → r ≡ unit) ⌝ }
+{
+    if crate::blocks::high(unit) {
+        crate::decode::wide(unit) * 0x400 + crate::decode::wide(next) - 0x35FDC00
+    } else {
+        crate::decode::wide(unit)
+    }
+}
+
+// A low unit counts for no value.
+fn counted(unit: u16) -> usize
+    ensures { λ r. ⌜ r ≡ number (not (isLow unit)) ⌝ }
+{
+    if crate::blocks::low(unit) { 0 } else { 1 }
+}
+
+// Where the last character of so many units begins.
+fn last_of(src: &[u16], at: usize, count: usize) -> usize
+    requires { ⌜ (2 ≤ count) × (at + count ≤ length (now src)) ⌝ }
+    ensures { λ r. ⌜ LastCharacter (now (src .entry)) at count r ⌝ }
+{
+    let last = count - 1;
+    if crate::blocks::low(src[at + last]) {
+        return count - 2;
+    }
+    last
+}
+
+// Unit by unit: no branch. What is written for a low unit is written over by the next character; the last is written exactly.
+fn pairs(src: &[u16], at: usize, count: usize, dst: &mut [u32], written: usize) -> Run
+    requires { ⌜ (2 ≤ count) × (at + count ≤ length (now src)) × (Convertible utf16 ucs4 (now src) at written (length (now dst))) ⌝ }
+    ensures { λ r. ⌜ (Wrote utf16 ucs4 (now (src .entry)) at (r .length) (r .units) (now (dst .entry)) written (now (dst .exit))) × (count ≤ r .length) ⌝ }
+{
+    let last = last_of(src, at, count);
+    let mut end = written;
+    let mut k: usize = 0;
+    while k < last {
+        let unit = src[at + k];
+        dst[end] = value(unit, src[at + k + 1]);
+        end += counted(unit);
+        k += 1;
+    }
+    let next = crate::decode::decode(src, at + last);
+    end = encoder::ucs4::write(next.value, dst, end);
+    Run {
+        length: last + next.length,
+        units: end - written,
+    }
+}
+
 fn block(src: &[u16], at: usize, count: usize, dst: &mut [u32], written: usize) -> Run
-    requires { ⌜ (at + count ≤ length (now src)) × (Convertible utf16 ucs4 (now src) at written (length (now dst))) ⌝ }
+    requires { ⌜ (2 ≤ count) × (at + count ≤ length (now src)) × (Convertible utf16 ucs4 (now src) at written (length (now dst))) ⌝ }
     ensures { λ r. ⌜ (Wrote utf16 ucs4 (now (src .entry)) at (r .length) (r .units) (now (dst .entry)) written (now (dst .exit))) × (count ≤ r .length) ⌝ }
 {
     if crate::blocks::surrogates(src, at, count) {
-        return each(src, at, count, dst, written);
+        return pairs(src, at, count, dst, written);
     }
     crate::decode::widen(src, at, count, dst, written);
     Run {
@@ -37,20 +93,20 @@ fn block(src: &[u16], at: usize, count: usize, dst: &mut [u32], written: usize) 
     }
 }
 
-// The whole rest of a text that the measure has accepted, in blocks of 128: shorter ones are compiled to slower code.
+// The whole rest of a text that the measure has accepted, in blocks of 32: the shorter they are, the more of them have no surrogates.
 pub fn write(src: &[u16], at: usize, dst: &mut [u32], written: usize) -> Run
     requires { ⌜ (at ≤ length (now src)) × (Convertible utf16 ucs4 (now src) at written (length (now dst))) ⌝ }
     ensures { λ r. ⌜ Wrote utf16 ucs4 (now (src .entry)) at (r .length) (r .units) (now (dst .entry)) written (now (dst .exit)) ⌝ }
 {
     let mut length: usize = 0;
     let mut end = written;
-    while 128 <= src.len() - at - length {
-        let run = block(src, at + length, 128, dst, end);
+    while 32 <= src.len() - at - length {
+        let run = block(src, at + length, 32, dst, end);
         length += run.length;
         end += run.units;
     }
     let rest = src.len() - at - length;
-    let run = block(src, at + length, rest, dst, end);
+    let run = each(src, at + length, rest, dst, end);
     Run {
         length: length + run.length,
         units: end + run.units - written,

@@ -30,7 +30,7 @@ block-requires : tie.Need-block-requires Inv-loop μ-loop
 block-requires c κs =
     let l = c .before .before in
     let x = l .before .before .before in
-    (omega (arith, c .before .loop-test .taken, l .loop .inv .run .inside), written-left (x .pre .1) (l .loop .inv))
+    (omega arith, omega (arith, c .before .loop-test .taken, l .loop .inv .run .inside), written-left (x .pre .1) (l .loop .inv))
 
 add-length : tie.Need-add-length Inv-loop μ-loop
 add-length c = search needs
@@ -59,11 +59,11 @@ sub-rest c = search needs
 sub-rest-2 : tie.Need-sub-rest-2 Inv-loop μ-loop
 sub-rest-2 c = search needs
 
-add-block-2 : tie.Need-add-block-2 Inv-loop μ-loop
-add-block-2 c = search needs
+add-each : tie.Need-add-each Inv-loop μ-loop
+add-each c = search needs
 
-block-requires-2 : tie.Need-block-requires-2 Inv-loop μ-loop
-block-requires-2 c κs =
+each-requires : tie.Need-each-requires Inv-loop μ-loop
+each-requires c κs =
     let l = c .before .before in
     let x = l .before .before .before in
     (omega (arith, l .loop .inv .run .inside), written-left (x .pre .1) (l .loop .inv))
@@ -75,7 +75,7 @@ add-t16 : tie.Need-add-t16 Inv-loop μ-loop
 add-t16 c =
     let l = c .before .before .before .before .before .before .before in
     let x = l .before .before .before in
-    let b = c .before .before .before .before .block2 in
+    let b = c .before .before .before .before .each in
     let w = written-within (x .pre .1) (written-run (x .pre .1) (l .loop .inv) (b .ensures .0)) in
     omega (arith, w .1, x .good)
 
@@ -83,21 +83,21 @@ sub-t20 : tie.Need-sub-t20 Inv-loop μ-loop
 sub-t20 c =
     let l = c .before .before .before .before .before .before .before in
     let x = l .before .before .before in
-    let b = c .before .before .before .before .block2 in
+    let b = c .before .before .before .before .each in
     omega (arith, written-within (x .pre .1) (written-run (x .pre .1) (l .loop .inv) (b .ensures .0)) .0)
 
 same-length : tie.Need-same-length Inv-loop μ-loop
 same-length c =
     let l = c .before .before .before .before .before .before .before in
     let x = l .before .before .before in
-    let b = c .before .before .before .before .block2 in
+    let b = c .before .before .before .before .each in
     written-length (x .pre .1) (written-run (x .pre .1) (l .loop .inv) (b .ensures .0))
 
 returns : tie.Need-returns Inv-loop μ-loop
 returns c =
     let l = c .before .before .before .before .before .before .before in
     let x = l .before .before .before in
-    let b = c .before .before .before .before .block2 in
+    let b = c .before .before .before .before .each in
     written-wrote (written-run (x .pre .1) (l .loop .inv) (b .ensures .0))
 
 pub write-spec : {M : Type 1} → statement M
@@ -117,8 +117,8 @@ write-spec =
     loop-again
     sub-rest
     sub-rest-2
-    add-block-2
-    block-requires-2
+    add-each
+    each-requires
     add-t17
     add-t16
     sub-t20
