@@ -18,6 +18,7 @@ use Rattle.laws.proofs.Progress.{CharacterAt}
 use Rattle.laws.proofs.ReadUnits.{Known, known, behind-one, behind-two, behind-three}
 use Rattle.laws.proofs.Runs.{Stands}
 use Rattle.tables.proofs.ByteLayouts.{not-excluded}
+use Rattle.fss_utf_runs.specs.ShortBlock.{Trailing}
 use Rattle.tables.specs.declared.ByteForm.the-variants.{FssUtf}
 
 -- a character of so many bytes, of this value, and its last byte inside
@@ -66,6 +67,13 @@ module _ (s : List ℕ) (p : ℕ) (c : Stands fssUtf s p) where
       let i = rw t at (k .is) in
       let e : k .value ≡ (u - 0xC0) * 64 + getD s (p + 1) 0 % 64 = omega (arith, i, d .0) in
       record { inside = k .inside; here = rw e at (k .here) }
+
+  -- its second byte is a trailing byte
+  pub trails : 0x80 ≤ getD s p 0 → getD s p 0 < 0xE0 → Trailing (getD s (p + 1) 0)
+  trails h l =
+      let k = of 1 (omega arith) (begins h) (omega arith) in
+      let d = rw (ap (take 1) (behind-one s p (k .inside))) at (k .digits) in
+      (omega (arith, d .0), omega (arith, d .0))
 
   pub bytes-three : 0xE0 ≤ getD s p 0 → getD s p 0 < 0xF0 → Bytes s p 2 (((getD s p 0 - 0xE0) * 64 + getD s (p + 1) 0 % 64) * 64 + getD s (p + 2) 0 % 64)
   bytes-three h l =

@@ -5,6 +5,7 @@ ghost use Prim.Native.Nat.{_+_, _%_, _<_, _≤_};
 ghost use lib.ListN.{length};
 ghost use Rattle.forms.specs.Forms.{fssUtf, utf16};
 ghost use Rattle.laws.proofs.Runs.{Convertible, Wrote, CopyingRun};
+ghost use Rattle.fss_utf_runs.specs.ShortBlock.{Shorts, ShortValue};
 
 fn wide(byte: u8) -> u16
     ensures { λ r. ⌜ r ≡ byte ⌝ }
@@ -63,6 +64,45 @@ fn ascii(src: &[u8], at: usize, dst: &mut [u16], written: usize) -> usize
     taken
 }
 
+// What a byte adds where its character has one byte or two, and the value is chosen without a branch. For a trailing byte it is any.
+fn unit(byte: u8, next: u8) -> u16
+    ensures { λ r. ⌜ ShortValue byte next r ⌝ }
+{
+    let two = free_bits(byte) * 64 + free_bits(next);
+    if byte < 0xC0 { wide(byte) } else { two }
+}
+
+// A block of 64 bytes of characters of one byte or two, and the byte behind it where that ends the last: a cell is stored for every byte, and
+// no cell is counted for a trailing byte, so that the next character is stored over it.
+fn short64(src: &[u8], at: usize, dst: &mut [u16], written: usize) -> Run
+    requires { ⌜ (at + 64 < length (now src)) × Shorts (now src) at 64 × Convertible fssUtf utf16 (now src) at written (length (now dst)) ⌝ }
+    ensures { λ r. ⌜ Wrote fssUtf utf16 (now (src .entry)) at (r .length) (r .units) (now (dst .entry)) written (now (dst .exit)) ⌝ }
+{
+    let last = crate::known::last_start(src, at);
+    let mut to = written;
+    let mut k: usize = 0;
+    while k < last {
+        let byte = src[at + k];
+        dst[to] = unit(byte, src[at + k + 1]);
+        to += crate::known::begun(byte);
+        k += 1;
+    }
+    let from = at + last;
+    let lead = src[from];
+    dst[to] = unit(lead, src[from + 1]);
+    let units = to + 1 - written;
+    if lead < 0x80 {
+        return Run {
+            length: last + 1,
+            units,
+        };
+    }
+    Run {
+        length: last + 2,
+        units,
+    }
+}
+
 // Characters one by one, up to one of more than four bytes. They are known to be characters, so nothing is tested but their lengths;
 // each length has its own way round the loop.
 fn few(src: &[u8], at: usize, dst: &mut [u16], written: usize) -> Run
@@ -108,12 +148,29 @@ fn few(src: &[u8], at: usize, dst: &mut [u16], written: usize) -> Run
     Run { length, units }
 }
 
+// A block of characters of one byte and two, or else characters one by one.
+fn others(src: &[u8], at: usize, dst: &mut [u16], written: usize) -> Run
+    requires { ⌜ (at < length (now src)) × Convertible fssUtf utf16 (now src) at written (length (now dst)) ⌝ }
+    ensures { λ r. ⌜ Wrote fssUtf utf16 (now (src .entry)) at (r .length) (r .units) (now (dst .entry)) written (now (dst .exit)) ⌝ }
+{
+    if 0xE0 <= src[at] {
+        return few(src, at, dst, written);
+    }
+    if src.len() - at <= 64 {
+        return few(src, at, dst, written);
+    }
+    if crate::known::longer64(src, at) {
+        return few(src, at, dst, written);
+    }
+    short64(src, at, dst, written)
+}
+
 pub fn write(src: &[u8], at: usize, dst: &mut [u16], written: usize) -> Run
     requires { ⌜ (at < length (now src)) × Convertible fssUtf utf16 (now src) at written (length (now dst)) ⌝ }
     ensures { λ r. ⌜ Wrote fssUtf utf16 (now (src .entry)) at (r .length) (r .units) (now (dst .entry)) written (now (dst .exit)) ⌝ }
 {
     if 0x80 <= src[at] {
-        return few(src, at, dst, written);
+        return others(src, at, dst, written);
     }
     let copied = ascii(src, at, dst, written);
     if copied != 0 {
@@ -122,5 +179,5 @@ pub fn write(src: &[u8], at: usize, dst: &mut [u16], written: usize) -> Run
             units: copied,
         };
     }
-    few(src, at, dst, written)
+    others(src, at, dst, written)
 }
