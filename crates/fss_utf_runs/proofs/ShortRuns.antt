@@ -1,7 +1,7 @@
 -- A block of characters of one byte and two: the loop that stores a unit for every byte and counts those of characters, for each target that
 -- has one unit for such a character.
 use Prim.Native.Nat.{ℕ, zero, suc, _+_, _*_, _-_, _%_, _≤_, _<_}
-use mathlib.Core.Path.{_≡_, refl, sym, ap, _∙_}
+use mathlib.Core.Path.{_≡_, refl, sym, ap, _∙_, subst}
 use mathlib.Core.Bool.{Bool, true, false, _&&_, _||_}
 use mathlib.Core.Logic.{_≢_}
 use mathlib.Core.List.{List, [], _∷_, _++_}
@@ -9,7 +9,9 @@ use native.Mathlib.Omega.{arith}
 use native.Mathlib.Nat.{add-zero}
 use native.Mathlib.Decide.{decLt}
 use lib.Dec.{leb, ltb}
-use lib.ListN.{length, getD, set, length-append}
+use lib.ListN.{length, getD, set, length-set, length-append}
+use lib.Seq.{getD-set-same, getD-set-other}
+use borrow.Author.Count.{below-more}
 use borrow.Author.Tests.{leb-true, leb-false, le-leb, ltb-true, ltb-false}
 use Rattle.forms.specs.Form.{Form, span, encode}
 use Rattle.forms.specs.Forms.{fssUtf}
@@ -21,7 +23,7 @@ use Rattle.laws.proofs.Spare.{Spare, spare-none, spare-over, spare-more, spare-
 use Rattle.laws.proofs.Table.{and-left, and-right}
 use Rattle.laws.proofs.Values.{and-false}
 use Rattle.fss_utf_validation.proofs.Validating.{or-left, or-right}
-use Rattle.fss_utf_runs.specs.ShortBlock.{Trailing, Shorts, Begun, ShortValue, LastStart}
+use Rattle.fss_utf_runs.specs.ShortBlock.{Trailing, Shorts, Filled, Begun, ShortValue, LastStart}
 use Rattle.fss_utf_runs.proofs.KnownBytes.{Bytes, begins, bytes-one, bytes-two, trails}
 
 -- what the test of a block joins is false only where each byte is below E0
@@ -39,6 +41,24 @@ module _ {s : List ℕ} {at : ℕ} where
 
   pub no-longer-end : {n : ℕ} {b : Bool} (m : ℕ) → NoLonger s at n b → n ≤ m → m ≤ n → b ≡ false → Shorts s at m
   no-longer-end m j h k e = record { all = each-all m (j .clean e .all) h k }
+
+-- the loop that fills an array
+module _ {P : ℕ → ℕ → Type 0} {n : ℕ} {b : List ℕ} where
+  pub filled-none : length b ≡ n → Filled P n 0 b
+  filled-none e = record { long = e; each = λ k h. absurd (omega arith) }
+
+  pub filled-more : {j : ℕ} (x : ℕ) → Filled P n j b → j < n → P j x → Filled P n (j + 1) (set b j x)
+  filled-more {j} x f h p =
+      record {
+        long = length-set b j x ∙ f .long;
+        each =
+            below-more (λ (k : ℕ). P k (getD (set b j x) k 0)) j
+            (λ k i. subst (P k) (sym (getD-set-other b j k x 0 (λ z. omega (arith, z)))) (f .each k i))
+            (subst (P j) (sym (getD-set-same b j x 0 (omega (arith, f .long)))) p);
+      }
+
+  pub filled-all : {j : ℕ} → Filled P n j b → j ≤ n → n ≤ j → Filled P n n b
+  filled-all {j} f h k = let e : j ≡ n = omega arith in rw e at f
 
 pub begun-none : (b : ℕ) → (leb 0x80 b && ltb b 0xC0) ≡ true → Begun b 0
 begun-none b e =

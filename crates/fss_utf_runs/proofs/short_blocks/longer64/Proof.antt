@@ -2,8 +2,8 @@ use Prim.Native.Nat.{_-_, _≤_}
 use Rattle.fss_utf_runs.proofs.ShortRuns.{NoLonger, no-longer-none, no-longer-more, no-longer-end}
 use borrow.Author.Needs.{needs}
 use native.Mathlib.Omega.{arith}
-use Rattle.fss_utf_runs.proofs.known.longer64.Statement.{statement}
-use Rattle.fss_utf_runs.proofs.known.longer64.Tie as tie
+use Rattle.fss_utf_runs.proofs.short_blocks.longer64.Statement.{statement}
+use Rattle.fss_utf_runs.proofs.short_blocks.longer64.Tie as tie
 
 abbrev Inv-loop : tie.InvT-loop
 Inv-loop src at found₀ i₀ found i = (i ≤ 64) × NoLonger src at i found

@@ -1,6 +1,6 @@
 use Rattle.fss_utf_runs.proofs.ShortRuns.{begun-none, begun-one}
-use Rattle.fss_utf_runs.proofs.known.begun.Statement.{statement}
-use Rattle.fss_utf_runs.proofs.known.begun.Tie as tie
+use Rattle.fss_utf_runs.proofs.short_blocks.begun.Statement.{statement}
+use Rattle.fss_utf_runs.proofs.short_blocks.begun.Tie as tie
 
 returns : tie.Need-returns
 returns c = begun-none (c .before .args .byte) (c .if1 .taken)
