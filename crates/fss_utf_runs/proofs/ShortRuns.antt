@@ -22,7 +22,7 @@ use Rattle.laws.proofs.Runs.{Run, Wrote, Convertible, Stands, run-none, run-joi
 use Rattle.laws.proofs.Spare.{Spare, spare-none, spare-over, spare-more, spare-last}
 use Rattle.laws.proofs.Table.{and-left, and-right}
 use Rattle.laws.proofs.Values.{and-false}
-use Rattle.fss_utf_validation.proofs.Validating.{or-left, or-right}
+use Rattle.laws.proofs.Values.{neither-left as or-left, neither-right as or-right}
 use Rattle.fss_utf_runs.specs.ShortBlock.{Trailing, Shorts, Filled, Begun, ShortValue, LastStart}
 use Rattle.fss_utf_runs.proofs.KnownBytes.{Bytes, begins, bytes-one, bytes-two, trails}
 
