@@ -29,7 +29,7 @@ pub fn write(src: &[u8], at: usize, dst: &mut [u8], written: usize) -> Run
             units = end - written;
             continue;
         }
-        let short = fss_utf_runs::known::known_at(src, at + length);
+        let short = fss_utf_decoding::known::known_at(src, at + length);
         let taken = short.length;
         if taken == 0 {
             return Run { length, units };
