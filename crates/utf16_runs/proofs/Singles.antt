@@ -5,7 +5,8 @@ use mathlib.Core.Logic.{_≢_}
 use mathlib.Core.Bool.{false}
 use mathlib.Core.List.{List, [], _∷_, _++_}
 use native.Mathlib.Omega.{arith}
-use lib.ListN.{length, getD}
+use lib.ListN.{length, getD, drop, length-append}
+use lib.Seq.{take-at, getD-take, getD-drop}
 use borrow.Author.Tests.{lt-leb}
 use Rattle.forms.specs.Form.{Form, encode, encodeAll, span}
 use Rattle.forms.specs.Forms.{utf16, fssUtf, ucs4}
@@ -60,6 +61,30 @@ module _
 
   pub plain-wrote : {d o : List ℕ} {u : ℕ} → Encoded G s at k d n u o → Wrote utf16 G s at k (u - n) d n o
   plain-wrote x = wrote-encoded plain-run x
+
+  -- units written through a local array b
+  module _ {b : List ℕ} (z : List ℕ) (e : b ≡ withUnits z 0 (part s at k)) where
+    local-part : part b 0 k ≡ part s at k
+    local-part = rw e (take-at (part s at k) (drop (0 + length (part s at k)) z) k (part-length s at k inside))
+
+    local-unit : (j : ℕ) → j < k → getD b (0 + j) 0 ≡ getD s (at + j) 0
+    local-unit j h =
+        let l : getD (part b 0 k) j 0 ≡ getD b (0 + j) 0 = getD-take k (drop 0 b) j 0 h ∙ getD-drop 0 b j 0 in
+        let r : getD (part s at k) j 0 ≡ getD s (at + j) 0 = getD-take k (drop at s) j 0 h ∙ getD-drop at s j 0 in
+        sym l ∙ ap (λ (x : List ℕ). getD x j 0) local-part ∙ r
+
+    pub local-encodable : Encodable G b 0 k
+    local-encodable =
+        record {
+          inside = omega (arith, ap length e, length-append (part s at k) (drop (0 + length (part s at k)) z), part-length s at k inside);
+          each = λ j h. rw (local-unit j h) (singles-encodable c inside next .each j h);
+        }
+
+    pub local-room : Room G b 0 k n m
+    local-room = record { fits = rw local-part (singles-room c inside next .fits) }
+
+    pub local-wrote : {d o : List ℕ} {u : ℕ} → Encoded G b 0 k d n u o → Wrote utf16 G s at k (u - n) d n o
+    local-wrote x = wrote-encoded {from = 0} {c = k} {b = b} (rw local-part plain-run) x
 
 -- ASCII to FSS-UTF, and any to UCS-4
 module _ {s : List ℕ} {at n m k : ℕ} (c : Convertible utf16 fssUtf s at n m) (inside : at + k ≤ length s) (units : (i : ℕ) → getD s i 0 < 0x10000) (a : AtMost s at k 0x7F) where

@@ -79,7 +79,7 @@ fn twos(src: &[u16], at: usize, count: usize, dst: &mut [u8], written: usize) ->
 }
 
 fn block(src: &[u16], at: usize, count: usize, dst: &mut [u8], written: usize) -> Run
-    requires { ⌜ (at + count ≤ length (now src)) × (Convertible utf16 fssUtf (now src) at written (length (now dst))) ⌝ }
+    requires { ⌜ (count ≤ 128) × (at + count ≤ length (now src)) × (Convertible utf16 fssUtf (now src) at written (length (now dst))) ⌝ }
     ensures { λ r. ⌜ (Wrote utf16 fssUtf (now (src .entry)) at (r .length) (r .units) (now (dst .entry)) written (now (dst .exit))) × (count ≤ r .length) ⌝ }
 {
     let most = crate::blocks::joined(src, at, count);
@@ -97,7 +97,16 @@ fn block(src: &[u16], at: usize, count: usize, dst: &mut [u8], written: usize) -
             units: end - written,
         };
     }
-    each(src, at, count, dst, written)
+    if crate::blocks::surrogates(src, at, count) {
+        return each(src, at, count, dst, written);
+    }
+    let mut values = [0u32; 128];
+    crate::decode::widen(src, at, count, &mut values, 0);
+    let end = block_encoder::fss_utf::write_all(&values, 0, count, dst, written);
+    Run {
+        length: count,
+        units: end - written,
+    }
 }
 
 // Fewer units than a block has: the test for short ones would cost more than it saves.

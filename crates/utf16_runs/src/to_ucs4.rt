@@ -79,7 +79,8 @@ fn pairs(src: &[u16], at: usize, count: usize, dst: &mut [u32], written: usize) 
     }
 }
 
-fn block(src: &[u16], at: usize, count: usize, dst: &mut [u32], written: usize) -> Run
+// Blocks with surrogates are written in quarters: the shorter they are, the more of them have none.
+fn quarter(src: &[u16], at: usize, count: usize, dst: &mut [u32], written: usize) -> Run
     requires { ⌜ (2 ≤ count) × (at + count ≤ length (now src)) × (Convertible utf16 ucs4 (now src) at written (length (now dst))) ⌝ }
     ensures { λ r. ⌜ (Wrote utf16 ucs4 (now (src .entry)) at (r .length) (r .units) (now (dst .entry)) written (now (dst .exit))) × (count ≤ r .length) ⌝ }
 {
@@ -93,20 +94,66 @@ fn block(src: &[u16], at: usize, count: usize, dst: &mut [u32], written: usize) 
     }
 }
 
-// The whole rest of a text that the measure has accepted, in blocks of 32: the shorter they are, the more of them have no surrogates.
+fn quarters(src: &[u16], at: usize, dst: &mut [u32], written: usize) -> Run
+    requires { ⌜ (at + 128 ≤ length (now src)) × (Convertible utf16 ucs4 (now src) at written (length (now dst))) ⌝ }
+    ensures { λ r. ⌜ (Wrote utf16 ucs4 (now (src .entry)) at (r .length) (r .units) (now (dst .entry)) written (now (dst .exit))) × (96 ≤ r .length) ⌝ }
+{
+    let mut length: usize = 0;
+    let mut end = written;
+    while length < 97 {
+        let run = quarter(src, at + length, 32, dst, end);
+        length += run.length;
+        end += run.units;
+    }
+    Run {
+        length: length,
+        units: end - written,
+    }
+}
+
+fn large(src: &[u16], at: usize, dst: &mut [u32], written: usize) -> Run
+    requires { ⌜ (at + 128 ≤ length (now src)) × (Convertible utf16 ucs4 (now src) at written (length (now dst))) ⌝ }
+    ensures { λ r. ⌜ (Wrote utf16 ucs4 (now (src .entry)) at (r .length) (r .units) (now (dst .entry)) written (now (dst .exit))) × (96 ≤ r .length) ⌝ }
+{
+    if crate::blocks::surrogates(src, at, 128) {
+        return quarters(src, at, dst, written);
+    }
+    crate::decode::widen(src, at, 128, dst, written);
+    Run {
+        length: 128,
+        units: 128,
+    }
+}
+
+// Fewer units than a large block has.
+fn block(src: &[u16], at: usize, count: usize, dst: &mut [u32], written: usize) -> Run
+    requires { ⌜ (at + count ≤ length (now src)) × (Convertible utf16 ucs4 (now src) at written (length (now dst))) ⌝ }
+    ensures { λ r. ⌜ (Wrote utf16 ucs4 (now (src .entry)) at (r .length) (r .units) (now (dst .entry)) written (now (dst .exit))) × (count ≤ r .length) ⌝ }
+{
+    if crate::blocks::surrogates(src, at, count) {
+        return each(src, at, count, dst, written);
+    }
+    crate::decode::widen(src, at, count, dst, written);
+    Run {
+        length: count,
+        units: count,
+    }
+}
+
+// The whole rest of a text that the measure has accepted, in blocks of 128: shorter ones are compiled to slower code.
 pub fn write(src: &[u16], at: usize, dst: &mut [u32], written: usize) -> Run
     requires { ⌜ (at ≤ length (now src)) × (Convertible utf16 ucs4 (now src) at written (length (now dst))) ⌝ }
     ensures { λ r. ⌜ Wrote utf16 ucs4 (now (src .entry)) at (r .length) (r .units) (now (dst .entry)) written (now (dst .exit)) ⌝ }
 {
     let mut length: usize = 0;
     let mut end = written;
-    while 32 <= src.len() - at - length {
-        let run = block(src, at + length, 32, dst, end);
+    while 128 <= src.len() - at - length {
+        let run = large(src, at + length, dst, end);
         length += run.length;
         end += run.units;
     }
     let rest = src.len() - at - length;
-    let run = each(src, at + length, rest, dst, end);
+    let run = block(src, at + length, rest, dst, end);
     Run {
         length: length + run.length,
         units: end + run.units - written,

@@ -30,7 +30,7 @@ block-requires : tie.Need-block-requires Inv-loop μ-loop
 block-requires c κs =
     let l = c .before .before in
     let x = l .before .before .before in
-    (omega (arith, c .before .loop-test .taken, l .loop .inv .run .inside), written-left (x .pre .1) (l .loop .inv))
+    (omega arith, omega (arith, c .before .loop-test .taken, l .loop .inv .run .inside), written-left (x .pre .1) (l .loop .inv))
 
 add-length : tie.Need-add-length Inv-loop μ-loop
 add-length c = search needs

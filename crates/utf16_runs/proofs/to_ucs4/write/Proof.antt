@@ -23,14 +23,14 @@ sub-loop c = search needs
 sub-loop-2 : tie.Need-sub-loop-2 Inv-loop μ-loop
 sub-loop-2 c = search needs
 
-add-block : tie.Need-add-block Inv-loop μ-loop
-add-block c = search needs
+add-large : tie.Need-add-large Inv-loop μ-loop
+add-large c = search needs
 
-block-requires : tie.Need-block-requires Inv-loop μ-loop
-block-requires c κs =
+large-requires : tie.Need-large-requires Inv-loop μ-loop
+large-requires c κs =
     let l = c .before .before in
     let x = l .before .before .before in
-    (omega arith, omega (arith, c .before .loop-test .taken, l .loop .inv .run .inside), written-left (x .pre .1) (l .loop .inv))
+    (omega (arith, c .before .loop-test .taken, l .loop .inv .run .inside), written-left (x .pre .1) (l .loop .inv))
 
 add-length : tie.Need-add-length Inv-loop μ-loop
 add-length c = search needs
@@ -39,7 +39,7 @@ add-end : tie.Need-add-end Inv-loop μ-loop
 add-end c =
     let l = c .before .before .before .before .before .before .before in
     let x = l .before .before .before in
-    let b = c .before .before .before .before .block in
+    let b = c .before .before .before .before .large in
     let w = written-within (x .pre .1) (written-run (x .pre .1) (l .loop .inv) (b .ensures .0)) in
     omega (arith, w .1, x .good)
 
@@ -50,7 +50,7 @@ loop-again : tie.Need-loop-again Inv-loop μ-loop
 loop-again c =
     let l = c .before .before .before .before .before .before .before in
     let x = l .before .before .before in
-    let b = c .before .before .before .before .block in
+    let b = c .before .before .before .before .large in
     written-run (x .pre .1) (l .loop .inv) (b .ensures .0)
 
 sub-rest : tie.Need-sub-rest Inv-loop μ-loop
@@ -59,11 +59,11 @@ sub-rest c = search needs
 sub-rest-2 : tie.Need-sub-rest-2 Inv-loop μ-loop
 sub-rest-2 c = search needs
 
-add-each : tie.Need-add-each Inv-loop μ-loop
-add-each c = search needs
+add-block : tie.Need-add-block Inv-loop μ-loop
+add-block c = search needs
 
-each-requires : tie.Need-each-requires Inv-loop μ-loop
-each-requires c κs =
+block-requires : tie.Need-block-requires Inv-loop μ-loop
+block-requires c κs =
     let l = c .before .before in
     let x = l .before .before .before in
     (omega (arith, l .loop .inv .run .inside), written-left (x .pre .1) (l .loop .inv))
@@ -75,7 +75,7 @@ add-t16 : tie.Need-add-t16 Inv-loop μ-loop
 add-t16 c =
     let l = c .before .before .before .before .before .before .before in
     let x = l .before .before .before in
-    let b = c .before .before .before .before .each in
+    let b = c .before .before .before .before .block in
     let w = written-within (x .pre .1) (written-run (x .pre .1) (l .loop .inv) (b .ensures .0)) in
     omega (arith, w .1, x .good)
 
@@ -83,21 +83,21 @@ sub-t20 : tie.Need-sub-t20 Inv-loop μ-loop
 sub-t20 c =
     let l = c .before .before .before .before .before .before .before in
     let x = l .before .before .before in
-    let b = c .before .before .before .before .each in
+    let b = c .before .before .before .before .block in
     omega (arith, written-within (x .pre .1) (written-run (x .pre .1) (l .loop .inv) (b .ensures .0)) .0)
 
 same-length : tie.Need-same-length Inv-loop μ-loop
 same-length c =
     let l = c .before .before .before .before .before .before .before in
     let x = l .before .before .before in
-    let b = c .before .before .before .before .each in
+    let b = c .before .before .before .before .block in
     written-length (x .pre .1) (written-run (x .pre .1) (l .loop .inv) (b .ensures .0))
 
 returns : tie.Need-returns Inv-loop μ-loop
 returns c =
     let l = c .before .before .before .before .before .before .before in
     let x = l .before .before .before in
-    let b = c .before .before .before .before .each in
+    let b = c .before .before .before .before .block in
     written-wrote (written-run (x .pre .1) (l .loop .inv) (b .ensures .0))
 
 pub write-spec : {M : Type 1} → statement M
@@ -109,16 +109,16 @@ write-spec =
     loop-holds
     sub-loop
     sub-loop-2
-    add-block
-    block-requires
+    add-large
+    large-requires
     add-length
     add-end
     loop-less
     loop-again
     sub-rest
     sub-rest-2
-    add-each
-    each-requires
+    add-block
+    block-requires
     add-t17
     add-t16
     sub-t20
