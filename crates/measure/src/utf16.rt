@@ -15,7 +15,7 @@ pub fn measure(target: Target, src: &[u16]) -> Conversion
     let mut at: usize = 0;
     let mut units: usize = 0;
     while at < src.len() {
-        let run = utf16_runs::count::count(target, src, at);
+        let run = utf16_count::count::count(target, src, at);
         let passed = run.length;
         if passed != 0 {
             at += passed;
