@@ -17,7 +17,7 @@ fn write_run(from: ByteForm, src: &[u8], at: usize, dst: &mut [u32], written: us
     ensures { λ r. ⌜ Wrote (byteForm from) ucs4 (now (src .entry)) at (r .length) (r .units) (now (dst .entry)) written (now (dst .exit)) ⌝ }
 {
     match from {
-        ByteForm::FssUtf => fss_utf_to_ucs4::write(src, at, dst, written),
+        ByteForm::FssUtf => fss_utf_runs_to_ucs4::write(src, at, dst, written),
         ByteForm::UtfEbcdic => utf_ebcdic_runs::to_ucs4::write(src, at, dst, written),
     }
 }

@@ -17,7 +17,7 @@ fn write_run(from: ByteForm, src: &[u8], at: usize, dst: &mut [u16], written: us
     ensures { λ r. ⌜ Wrote (byteForm from) utf16 (now (src .entry)) at (r .length) (r .units) (now (dst .entry)) written (now (dst .exit)) ⌝ }
 {
     match from {
-        ByteForm::FssUtf => fss_utf_to_utf16::write(src, at, dst, written),
+        ByteForm::FssUtf => fss_utf_runs_to_utf16::write(src, at, dst, written),
         ByteForm::UtfEbcdic => utf_ebcdic_runs::to_utf16::write(src, at, dst, written),
     }
 }

@@ -19,7 +19,7 @@ pub fn convert(to: ByteForm, src: &[u16], dst: &mut [u8]) -> Conversion
     let mut at: usize = 0;
     let mut written: usize = 0;
     while at < src.len() {
-        let run = utf16_to_bytes::write(to, src, at, dst, written);
+        let run = utf16_runs_to_bytes::write(to, src, at, dst, written);
         let passed = run.length;
         if passed != 0 {
             at += passed;

@@ -18,7 +18,7 @@ pub fn convert(src: &[u16], dst: &mut [u32]) -> Conversion
     let mut at: usize = 0;
     let mut written: usize = 0;
     while at < src.len() {
-        let run = utf16_to_ucs4::write(src, at, dst, written);
+        let run = utf16_runs_to_ucs4::write(src, at, dst, written);
         let passed = run.length;
         if passed != 0 {
             at += passed;
