@@ -47,7 +47,7 @@ fn copy16(src: &[u8], at: usize, dst: &mut [u32], written: usize) -> usize
     16
 }
 
-// ASCII in whole blocks, as far as the room goes.
+// ASCII in whole blocks, as far as the room goes; and where less than a block is left, byte by byte.
 fn ascii(src: &[u8], at: usize, dst: &mut [u32], written: usize) -> usize
     requires { ⌜ (at ≤ length (now src)) × (written ≤ length (now dst)) ⌝ }
     ensures { λ r. ⌜ CopyingRun fssUtf ucs4 (now (src .entry)) at written (now (dst .entry)) r (now (dst .exit)) ⌝ }
@@ -62,6 +62,17 @@ fn ascii(src: &[u8], at: usize, dst: &mut [u32], written: usize) -> usize
             return taken;
         }
         taken += copied;
+    }
+    while taken < src.len() - at {
+        let unit = wide(src[at + taken]);
+        if 0x80 <= unit {
+            return taken;
+        }
+        if dst.len() <= written + taken {
+            return taken;
+        }
+        dst[written + taken] = unit;
+        taken += 1;
     }
     taken
 }
