@@ -1,7 +1,8 @@
 //! Holds four texts to each other: the header `include/jiskromet.h`, this
 //! package's `src/library.rs`, the Rust wrapper's `rust/src/sys.rs` and the
-//! library's exports in `crates/jiskromet/src`. A linker compares names only; a
-//! parameter or field that differs would go unseen.
+//! library's exports in `crates/jiskromet/src` with their structs in
+//! `crates/c_answers/src`. A linker compares names only; a parameter or field
+//! that differs would go unseen.
 
 use std::collections::{BTreeMap, BTreeSet};
 use std::fs;
@@ -16,11 +17,13 @@ const LIBRARY: &str = include_str!("library.rs");
 pub fn check(group: &mut Group, root: &Path) {
     let header = root.join("include/jiskromet.h");
     let wrapper = root.join("rust/src/sys.rs");
-    let sources = root.join("crates/jiskromet/src");
     let header = fs::read_to_string(&header).map_err(|why| format!("{}: {why}", header.display()));
     let wrapper =
         fs::read_to_string(&wrapper).map_err(|why| format!("{}: {why}", wrapper.display()));
-    let sources = read_sources(&sources).map_err(|why| format!("{}: {why}", sources.display()));
+    let sources: Result<String, String> = ["crates/c_answers/src", "crates/jiskromet/src"]
+        .iter()
+        .map(|folder| read_sources(&root.join(folder)).map_err(|why| format!("{folder}: {why}")))
+        .collect();
     match (header, wrapper, sources) {
         (Ok(header), Ok(wrapper), Ok(sources)) => {
             compare(group, &header, LIBRARY, &wrapper, &sources);
