@@ -7,7 +7,8 @@ use native.Mathlib.Decide.{decLt}
 use lib.ListN.{length, getD, set}
 use Rattle.forms.specs.Form.{encode}
 use Rattle.forms.specs.Forms.{fssUtf}
-use Rattle.laws.proofs.Values.{AtMost, Encodable, Room}
+use Rattle.laws.proofs.Blocks.{AtMost}
+use Rattle.laws.proofs.Values.{Encodable, Room}
 use Rattle.laws.proofs.Spare.{Overrun, overrun-room, overrun-one, overrun-two}
 use Rattle.block_encoder.proofs.FssUtf.{one-byte, two-bytes}
 

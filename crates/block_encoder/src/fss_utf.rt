@@ -6,7 +6,8 @@ ghost use lib.ListN.{length, getD, set};
 ghost use Rattle.forms.specs.Form.{encode};
 ghost use Rattle.forms.specs.Forms.{fssUtf};
 ghost use Rattle.forms.specs.Buffer.{withUnits};
-ghost use Rattle.laws.proofs.Values.{AtLeast, AtMost, Encodable, Encoded, Room};
+ghost use Rattle.laws.proofs.Blocks.{AtLeast, AtMost};
+ghost use Rattle.laws.proofs.Values.{Encodable, Encoded, Room};
 
 // Values of one, two, three and four bytes.
 pub fn one(value: u32, dst: &mut [u8], at: usize) -> usize

@@ -1,8 +1,9 @@
 // UTF-16: several values at once. `laws/proofs/Values` says what is asked and promised.
-ghost use Prim.Native.Nat.{_+_, _≤_};
+ghost use Prim.Native.Nat.{_+_};
 ghost use lib.ListN.{length};
 ghost use Rattle.forms.specs.Forms.{utf16};
-ghost use Rattle.laws.proofs.Values.{AtMost, Encodable, Encoded, Room};
+ghost use Rattle.laws.proofs.Blocks.{AtMost};
+ghost use Rattle.laws.proofs.Values.{Encodable, Encoded, Room};
 
 // Values below 10000: each is its unit.
 fn copy(values: &[u32], from: usize, count: usize, dst: &mut [u16], at: usize) -> usize

@@ -3,7 +3,7 @@ ghost use mathlib.Core.Path.{_≡_};
 ghost use mathlib.Core.Bool.{true};
 ghost use Prim.Native.Nat.{_+_, _≤_};
 ghost use lib.ListN.{length};
-ghost use Rattle.laws.proofs.Values.{AtLeast, AtMost};
+ghost use Rattle.laws.proofs.Blocks.{AtLeast, AtMost};
 
 // The values joined by OR: none of them exceeds it. The loop has no branch, so that it is compiled to vector code.
 pub fn joined(values: &[u32], from: usize, count: usize) -> u32

@@ -5,7 +5,6 @@ use Rattle.types.specs.declared.Item.the-variants.{Character, Mark}
 use Rattle.types.specs.declared.Refusal.{Refusal}
 use Rattle.types.specs.declared.Conversion.{Conversion}
 use Rattle.types.specs.declared.Conversion.the-variants.{Units, Refused as NoUnits}
-use Rattle.types.specs.declared.Counts.{Counts}
 use Rattle.types.specs.declared.Decoding.{Decoding}
 use Rattle.types.specs.declared.Decoding.the-variants.{Decoded, Refused as NotDecoded}
 use Rattle.types.specs.declared.Start.{Start}

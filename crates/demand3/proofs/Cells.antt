@@ -8,7 +8,7 @@ use native.Mathlib.Decide.{decLt}
 use lib.ListN.{length, getD, take, drop, length-append, length-map}
 use Rattle.types.specs.declared.Span.{Span}
 use Rattle.types.specs.declared.Item.{Item}
-use Rattle.forms.specs.Form.{Sequence, sequence, units, size, Form, Content, character, mark, content, span, withSpan, spanOf, itemOf, itemsFrom}
+use Rattle.forms.specs.Form.{Sequence, sequence, units, size, Form, Content, character, mark, content, span, withSpan, itemOf, itemsFrom}
 use Rattle.forms.specs.Lossy.{markValue, valueOf, offsetOf, markCount, marks}
 use Rattle.laws.proofs.Sequences.{joined}
 use Rattle.laws.proofs.Items.{length-items}

@@ -1,18 +1,17 @@
 -- What a lossy decoding promises follows from its answer and its cells: demand 3 among it.
 use Prim.Native.Nat.{ℕ, _+_, _≤_, _<_}
-use mathlib.Core.Path.{_≡_, refl, sym, ap, _∙_}
-use mathlib.Core.Bool.{Bool, true, false, cond, _||_}
+use mathlib.Core.Path.{_≡_, refl, ap, _∙_}
+use mathlib.Core.Bool.{Bool, true, false, _||_}
 use mathlib.Core.List.{List, _++_, map}
-use native.Mathlib.Omega.{arith}
 use borrow.Author.Tests.{le-ltb, lt-ltb}
 use lib.Dec.{ltb}
 use lib.ListN.{length, take, drop, length-map}
 use lib.Seq.{take-at, drop-at}
 use Rattle.types.specs.declared.Fault.the-variants.{SourceTooLong, BufferTooShort}
 use Rattle.types.specs.declared.Decoding.{Decoding}
-use Rattle.types.specs.declared.Decoding.the-variants.{Decoded, Refused}
+use Rattle.types.specs.declared.Decoding.the-variants.{Decoded}
 use Rattle.forms.specs.Fault.{limit, refusal}
-use Rattle.forms.specs.Form.{Form, items, encodeAll, AllEncodable}
+use Rattle.forms.specs.Form.{Form, items}
 use Rattle.forms.specs.Lossy.{valueOf, offsetOf, marks, Outcome, decoded, refused, lossy, counts, answerOf, valuesIn, startsIn}
 use Rattle.demand3.specs.Demand3.{Parts, Demand3, DecodesLossy}
 use Rattle.laws.proofs.FormLaws.{Laws}

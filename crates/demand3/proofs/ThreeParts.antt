@@ -10,15 +10,15 @@ use lib.ListN.{length, getD, take, drop, length-append, length-drop, length-map,
 use lib.Seq.{drop-append-seam, getD-at, length-take-le}
 use Rattle.types.specs.declared.Item.{Item}
 use Rattle.types.specs.declared.Item.the-variants.{Character}
-use Rattle.forms.specs.Form.{Role, lead, Sequence, sequence, units, size, Form, isTrailing, asked, sequences, Content, character, mark, content, span, itemOf, itemsFrom, items, encode, encodeAll, AllEncodable, OccursAt}
+use Rattle.forms.specs.Form.{Sequence, sequence, units, size, Form, sequences, Content, character, mark, content, span, itemsFrom, items, encode, encodeAll, AllEncodable, OccursAt}
 use Rattle.forms.specs.Lossy.{markValue, valueOf, offsetOf, marks}
 use Rattle.demand3.specs.Demand3.{startsFrom, Given, Under, Outside, UnderOneMark, Parts}
-use Rattle.laws.proofs.Sequences.{NoTrailingFirst, AllTrailing, Full, joined, sequences-border, sequences-full, sequences-joined}
+use Rattle.laws.proofs.Sequences.{NoTrailingFirst, AllTrailing, joined, sequences-border, sequences-full, sequences-joined}
 use Rattle.laws.proofs.FormLaws.{Reads, Laws}
 use Rattle.laws.proofs.Items.{length-items}
 use Rattle.laws.proofs.Marks.{marks-append}
 use Rattle.laws.proofs.Characters.{charactersFrom, reads-item, content-reads, all-taken, AllTaken, read-characters}
-use Rattle.demand3.proofs.Cells.{shown, none-there, values, starts, length-values, length-starts, items-append, values-anywhere, marks-anywhere, starts-moved, value-at, start-at, joined-split, joined-next, Has, has}
+use Rattle.demand3.proofs.Cells.{shown, none-there, starts, length-values, length-starts, items-append, values-anywhere, marks-anywhere, starts-moved, value-at, start-at, joined-split, joined-next, Has, has}
 
 -- what the items of characters show
 module _ (F : Form) where

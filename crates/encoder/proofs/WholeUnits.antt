@@ -1,16 +1,16 @@
 -- The encodings of UTF-16 and UCS-4, and one to four units put into a buffer.
-use Prim.Native.Nat.{ℕ, zero, suc, _+_, _-_, _*_, _/_, _%_, _≤_, _<_}
-use mathlib.Core.Path.{_≡_, refl, sym, ap, _∙_}
+use Prim.Native.Nat.{ℕ, suc, _+_, _-_, _/_, _%_, _≤_, _<_}
+use mathlib.Core.Path.{_≡_, ap, _∙_}
 use mathlib.Core.Logic.{_≢_}
-use mathlib.Core.List.{List, [], _∷_, _++_, append-assoc}
+use mathlib.Core.List.{List, [], _∷_, append-assoc}
 use native.Mathlib.Omega.{arith}
-use native.Mathlib.Nat.{zero-add, sub-zero, div-one, mod-lt}
+use native.Mathlib.Nat.{zero-add, sub-zero, div-one}
 use native.Mathlib.Numerals.{add-one}
 use native.Mathlib.Decide.{decLt}
 use lib.ListN.{length, take, drop, set}
 use lib.Seq.{sets, sets-eq}
 use borrow.Author.Tests.{le-ltb, lt-ltb}
-use Rattle.forms.specs.Form.{Form, encode}
+use Rattle.forms.specs.Form.{encode}
 use Rattle.forms.specs.Layout.{formOf}
 use Rattle.forms.specs.Forms.{utf16Layout, utf16, ucs4}
 use Rattle.forms.specs.Buffer.{withUnits}

@@ -1,5 +1,5 @@
 -- The bytes of a character that is known to stand at an offset.
-use Prim.Native.Nat.{ℕ, zero, suc, _+_, _*_, _-_, _%_, _^_, _≤_, _<_}
+use Prim.Native.Nat.{ℕ, _+_, _*_, _-_, _%_, _≤_, _<_}
 use mathlib.Core.Path.{_≡_, refl, sym, ap, _∙_}
 use mathlib.Core.List.{List, [], _∷_}
 use native.Mathlib.Omega.{arith}
@@ -8,9 +8,8 @@ use lib.ListN.{length, getD, take, drop}
 use Rattle.types.specs.declared.Fault.the-variants.{StrayTrailing}
 use Rattle.types.specs.declared.Item.the-variants.{Character, Mark}
 use Rattle.forms.specs.Form.{span}
-use Rattle.forms.specs.Layout.{Layout, number, rowAt}
+use Rattle.forms.specs.Layout.{rowAt}
 use Rattle.forms.specs.Forms.{byteLayout, fssUtf}
-use Rattle.laws.proofs.Digits.{AllDigits}
 use Rattle.laws.proofs.LayoutLaws.{digit-trailing}
 use Rattle.laws.proofs.FourForms.{fssUtf-fits, fssUtf-invalid}
 use Rattle.laws.proofs.Reading.{reads-trailing, reads-invalid}

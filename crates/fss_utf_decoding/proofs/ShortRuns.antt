@@ -1,7 +1,7 @@
 -- A block of characters of one byte and two: the loop that stores a unit for every byte and counts those of characters, for each target that
 -- has one unit for such a character.
-use Prim.Native.Nat.{ℕ, zero, suc, _+_, _*_, _-_, _%_, _≤_, _<_}
-use mathlib.Core.Path.{_≡_, refl, sym, ap, _∙_, subst}
+use Prim.Native.Nat.{ℕ, _+_, _-_, _≤_, _<_}
+use mathlib.Core.Path.{_≡_, refl, sym, _∙_, subst}
 use mathlib.Core.Bool.{Bool, true, false, _&&_, _||_}
 use mathlib.Core.Logic.{_≢_}
 use mathlib.Core.List.{List, [], _∷_, _++_}
@@ -24,7 +24,7 @@ use Rattle.laws.proofs.Table.{and-left, and-right}
 use Rattle.laws.proofs.Values.{and-false}
 use Rattle.laws.proofs.Values.{neither-left as or-left, neither-right as or-right}
 use Rattle.fss_utf_decoding.specs.ShortBlock.{Trailing, Shorts, Filled, Begun, ShortValue, LastStart}
-use Rattle.fss_utf_decoding.proofs.KnownBytes.{Bytes, begins, bytes-one, bytes-two, trails}
+use Rattle.fss_utf_decoding.proofs.KnownBytes.{begins, bytes-one, bytes-two, trails}
 
 -- what the test of a block joins is false only where each byte is below E0
 pub record NoLonger (s : List ℕ) (at n : ℕ) (found : Bool) : Type 0 where

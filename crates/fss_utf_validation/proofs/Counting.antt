@@ -1,10 +1,9 @@
 -- ASCII in FSS-UTF: counted, and written as itself.
-use Prim.Native.Nat.{ℕ, zero, suc, _+_, _*_, _-_, _≤_, _<_}
-use mathlib.Core.Path.{_≡_, refl, sym, ap, _∙_}
+use Prim.Native.Nat.{ℕ, _+_, _-_, _≤_, _<_}
+use mathlib.Core.Path.{_≡_, refl}
 use mathlib.Core.List.{List, [], _∷_}
 use native.Mathlib.Omega.{arith}
 use lib.ListN.{length, getD, set, drop}
-use Rattle.types.specs.declared.Span.{Span}
 use Rattle.forms.specs.Form.{Form, span, encode}
 use Rattle.forms.specs.Forms.{byteLayout, fssUtf}
 use Rattle.laws.proofs.Blocks.{AtMost}
@@ -12,7 +11,6 @@ use Rattle.laws.proofs.Progress.{CharacterAt}
 use Rattle.laws.proofs.ReadUnits.{read-units}
 use Rattle.laws.proofs.Buffers.{with-one}
 use Rattle.laws.proofs.Runs.{Run, run-one, Counted, counted-units, CopyingRun, copying-run-more}
-use Rattle.tables.specs.declared.ByteForm.{ByteForm}
 use Rattle.tables.specs.declared.ByteForm.the-variants as form
 use Rattle.tables.proofs.ByteLayouts.{not-excluded}
 use Rattle.encoder.specs.Target.{targetForm}
@@ -29,7 +27,7 @@ module _ {s : List ℕ} {at : ℕ} where
   ascii-counted t {k} h a =
       counted-units k (omega arith)
       (λ j i.
-      let l : getD s (at + j) 0 < 0x80 = omega (arith, a .all .each j i) in
+      let l : getD s (at + j) 0 < 0x80 = omega (arith, a .each j i) in
       counted-ascii t (ascii-at s (at + j) (omega arith) l) l)
 
 -- an ASCII character that is written as itself

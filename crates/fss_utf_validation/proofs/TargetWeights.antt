@@ -1,15 +1,15 @@
 -- The weights of each target add up to the units of each character.
-use Prim.Native.Nat.{ℕ, zero, suc, _+_, _*_, _-_, _≤_, _<_}
+use Prim.Native.Nat.{ℕ, suc, _+_, _-_, _≤_, _<_}
 use mathlib.Core.Path.{_≡_, refl, sym, ap, _∙_}
 use mathlib.Core.Logic.{_≢_}
-use mathlib.Core.Bool.{Bool, true, false, not, _&&_}
+use mathlib.Core.Bool.{Bool, true, false, _&&_}
 use mathlib.Core.List.{List, [], _∷_}
 use native.Mathlib.Omega.{arith}
 use native.Mathlib.Decide.{decLt}
 use lib.Dec.{leb, ltb, eqb}
 use borrow.Author.Tests.{lt-ltb, le-ltb, le-leb, lt-leb, eq-eqb, ne-eqb}
 use lib.ListN.{length}
-use Rattle.forms.specs.Form.{Form, encode}
+use Rattle.forms.specs.Form.{encode}
 use Rattle.forms.specs.Forms.{utf16, ucs4, utfEbcdic}
 use Rattle.forms.specs.Layout.{lowestOf}
 use Rattle.laws.proofs.FourForms.{utfEbcdic-laws}
@@ -21,7 +21,7 @@ use Rattle.encoder.proofs.WholeUnits.{ucs4-encoding, below-surrogates, above-su
 use Rattle.encoder.proofs.Targets.{encode-seven}
 use Rattle.encoder.specs.declared.Target.the-variants as target
 use Rattle.fss_utf_validation.specs.declared.weights.Weights.{Weights}
-use Rattle.fss_utf_validation.specs.Validation.{isTrailingByte, bit, reached, splits, added, LeadWeights, Weighs, value2, value3, value4, utfEbcdicWeights, utf16Weights, ucs4Weights}
+use Rattle.fss_utf_validation.specs.Validation.{bit, reached, added, LeadWeights, Weighs, value2, value3, value4, utfEbcdicWeights, utf16Weights, ucs4Weights}
 use Rattle.fss_utf_validation.proofs.Validating.{not-reached, ascii-adds}
 
 cons-some : {x : ℕ} {xs e : List ℕ} → e ≡ x ∷ xs → e ≢ []

@@ -1,7 +1,6 @@
 -- The loops of validation: what they keep, and what blocks come to.
-use Prim.Native.Nat.{ℕ, zero, suc, _+_, _*_, _-_, _≤_, _<_}
+use Prim.Native.Nat.{ℕ, _+_, _*_, _-_, _≤_, _<_}
 use mathlib.Core.Path.{_≡_, refl, sym, ap, _∙_}
-use mathlib.Core.Logic.{_≢_}
 use mathlib.Core.Bool.{Bool, true, false, not, _&&_, _||_}
 use mathlib.Core.List.{List}
 use native.Mathlib.Omega.{arith}
@@ -12,11 +11,10 @@ use lib.ListN.{length, getD, set, replicate, length-set, length-replicate, getD-
 use lib.Seq.{getD-set-same, getD-set-other}
 use borrow.Author.Tests.{lt-leb, lt-ltb, le-ltb}
 use Rattle.laws.proofs.Runs.{sum, sum-zero, sum-more, sum-join, sum-most}
-use Rattle.laws.proofs.Values.{sum-plus, sum-ones, sum-none, neither-left, neither-right}
-use Rattle.laws.proofs.Moved.{sum-along}
-use Rattle.laws.proofs.Blocks.{Each, each-none, each-more, each-join, each-all}
+use Rattle.laws.proofs.Values.{sum-along, sum-plus, sum-ones, sum-none, neither-left, neither-right}
+use Rattle.laws.proofs.Blocks.{each-none, each-more, each-join, each-all}
 use Rattle.fss_utf_validation.specs.declared.weights.Weights.{Weights}
-use Rattle.fss_utf_validation.specs.Validation.{isTrailingByte, illFormed, illFormedAt, Validated, bit, reached, splits, added, addedAt, leadAt, reachedAt, splitAt, LeadWeights, Blocks, Bordered, Whole, Padded}
+use Rattle.fss_utf_validation.specs.Validation.{isTrailingByte, illFormedAt, Validated, bit, reached, splits, added, addedAt, leadAt, reachedAt, splitAt, LeadWeights, Blocks, Whole, Padded}
 
 pub bit-most : (x : Bool) → bit x ≤ 1
 bit-most true = omega arith

@@ -1,19 +1,17 @@
 -- Bytes at which nothing is wrong, between two leads, are whole characters.
-use Prim.Native.Nat.{ℕ, zero, suc, _+_, _*_, _-_, _^_, _≤_, _<_}
+use Prim.Native.Nat.{ℕ, _+_, _-_, _≤_, _<_}
 use mathlib.Core.Path.{_≡_, refl, sym, ap, _∙_}
 use mathlib.Core.Logic.{_≢_}
 use mathlib.Core.Bool.{Bool, true, false, not, _&&_, _||_, Bool·beq}
-use mathlib.Core.List.{List, [], _∷_, _++_}
+use mathlib.Core.List.{List, [], _∷_}
 use native.Mathlib.Omega.{arith}
 use native.Mathlib.Decide.{decLt}
 use native.Mathlib.Nat.{add-zero}
 use lib.Dec.{leb, ltb, eqb}
-use borrow.Author.Tests.{lt-ltb, le-ltb, le-leb, lt-leb, eq-eqb, ltb-true, ltb-false, leb-true, leb-false, eqb-false}
+use borrow.Author.Tests.{lt-ltb, le-leb, lt-leb, eq-eqb, ltb-true, ltb-false, leb-true, leb-false, eqb-false}
 use lib.ListN.{length, getD, drop}
-use Rattle.forms.specs.Form.{Form, span, encode}
+use Rattle.forms.specs.Form.{Form, encode}
 use Rattle.forms.specs.Forms.{byteLayout, fssUtf}
-use Rattle.laws.proofs.Digits.{IsDigit, AllDigits}
-use Rattle.laws.proofs.Progress.{CharacterAt}
 use Rattle.laws.proofs.ReadUnits.{read-units, behind-one, behind-two, behind-three}
 use Rattle.laws.proofs.Runs.{Counted, counted-none, sum, sum-zero, sum-more, sum-join, Next, between}
 use Rattle.laws.proofs.Moved.{counted-moved}
@@ -22,7 +20,7 @@ use Rattle.laws.proofs.Values.{neither-left as or-left, neither-right as or-rig
 use Rattle.tables.proofs.ByteLayouts.{not-excluded}
 use Rattle.tables.specs.declared.ByteForm.the-variants.{FssUtf}
 use Rattle.fss_utf_validation.specs.declared.weights.Weights.{Weights}
-use Rattle.fss_utf_validation.specs.Validation.{isTrailingByte, asksTrailing, noByte, noSecond, illFormed, illFormedAt, Validated, added, addedAt, value2, value3, value4, LeadWeights, Weighs, Weighed, Bordered, Whole, Padded}
+use Rattle.fss_utf_validation.specs.Validation.{isTrailingByte, asksTrailing, noByte, noSecond, illFormed, illFormedAt, Validated, added, addedAt, value2, value3, value4, LeadWeights, Weighs, Weighed, Whole, Padded}
 use Rattle.fss_utf_validation.proofs.Validating.{zeros-add}
 
 same : (a b : Bool) → not (Bool·beq a b) ≡ false → a ≡ b

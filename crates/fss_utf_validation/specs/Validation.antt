@@ -1,6 +1,6 @@
 -- Well-formed FSS-UTF told by a window of four bytes: inner, for the blocks that a measure takes at once. It knows the sequences of one to
 -- four bytes whose values UTF-16 holds; a block with any other is left to the item reader.
-use Prim.Native.Nat.{ℕ, zero, suc, _+_, _*_, _-_, _≤_, _<_}
+use Prim.Native.Nat.{ℕ, _+_, _*_, _-_, _≤_, _<_}
 use mathlib.Core.Path.{_≡_}
 use mathlib.Core.Logic.{_≢_}
 use mathlib.Core.Bool.{Bool, true, false, not, _&&_, _||_, Bool·beq}

@@ -2,9 +2,8 @@
 use crate::weights::Weights;
 use encoder::Target;
 use types::Run;
-ghost use mathlib.Core.Path.{_≡_};
 ghost use Prim.Native.Nat.{_+_, _-_, _<_, _≤_};
-ghost use lib.ListN.{length, getD};
+ghost use lib.ListN.{length};
 ghost use Rattle.forms.specs.Forms.{fssUtf};
 ghost use Rattle.laws.proofs.Runs.{Counted};
 ghost use Rattle.encoder.specs.Target.{targetForm};

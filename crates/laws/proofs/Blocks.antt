@@ -1,12 +1,12 @@
 -- Blocks of units: what a loop over one gathers, and a local array that holds one.
-use Prim.Native.Nat.{ℕ, zero, suc, _+_, _-_, _≤_, _<_}
-use mathlib.Core.Path.{_≡_, refl, sym, ap, _∙_, subst}
-use mathlib.Core.List.{List, [], _∷_}
+use Prim.Native.Nat.{ℕ, _+_, _-_, _≤_, _<_}
+use mathlib.Core.Path.{_≡_, refl, _∙_, subst}
+use mathlib.Core.List.{List}
 use native.Mathlib.Omega.{arith}
 use native.Mathlib.Nat.{le-trans}
-use native.Mathlib.Decide.{decLt, ℕ-discrete}
+use native.Mathlib.Decide.{decLt}
 use borrow.Author.Count.{below-more}
-use lib.Bits.{bitOr, bitAnd, or-add-and, and-le-l, and-le-r}
+use lib.Bits.{bitOr, or-add-and, and-le-l, and-le-r}
 use lib.ListN.{length, getD, set, length-set}
 use lib.Seq.{getD-set-same, getD-set-other, paste}
 use Rattle.laws.proofs.Buffers.{copy-begin, copy-more}
@@ -36,7 +36,11 @@ module _ {P : ℕ → Type 0} {at : ℕ} where
 
 -- the n units from `at` on are at most m
 pub record AtMost (s : List ℕ) (at n m : ℕ) : Type 0 where
-  pub all : Each (λ i. getD s i 0 ≤ m) at n
+  pub each : (k : ℕ) → k < n → getD s (at + k) 0 ≤ m
+
+-- or at least m
+pub record AtLeast (s : List ℕ) (at n m : ℕ) : Type 0 where
+  pub each : (k : ℕ) → k < n → m ≤ getD s (at + k) 0
 
 or-left : (a b : ℕ) → a ≤ bitOr a b
 or-left a b = omega (arith, or-add-and a b, and-le-r a b)
@@ -46,23 +50,28 @@ or-right a b = omega (arith, or-add-and a b, and-le-l a b)
 
 module _ {s : List ℕ} {at : ℕ} where
   pub at-most-none : {m : ℕ} → AtMost s at 0 m
-  at-most-none = record { all = each-none }
+  at-most-none = record { each = λ k h. absurd (omega arith) }
 
   pub at-most-looser : {n m : ℕ} (l : ℕ) → AtMost s at n m → m ≤ l → AtMost s at n l
-  at-most-looser l a h = record { all = record { each = λ k i. le-trans (a .all .each k i) h } }
+  at-most-looser l a h = record { each = λ k i. le-trans (a .each k i) h }
 
   -- units joined bit by bit: each is at most the whole
   pub at-most-or : {n m : ℕ} (x : ℕ) → AtMost s at n m → x ≡ getD s (at + n) 0 → AtMost s at (n + 1) (bitOr m x)
   at-most-or {n} {m} x a e =
       record {
-        all = each-more (at-most-looser (bitOr m x) a (or-left m x) .all) (subst (λ (y : ℕ). y ≤ bitOr m x) e (or-right m x));
+        each =
+            below-more (λ (k : ℕ). getD s (at + k) 0 ≤ bitOr m x) n (at-most-looser (bitOr m x) a (or-left m x) .each)
+            (subst (λ (y : ℕ). y ≤ bitOr m x) e (or-right m x));
       }
 
   pub at-most-join : {n k m : ℕ} → AtMost s at n m → AtMost s (at + n) k m → AtMost s at (n + k) m
-  at-most-join a b = record { all = each-join (a .all) (b .all) }
+  at-most-join {n} {k} {m} a b =
+      let x : Each (λ i. getD s i 0 ≤ m) at n = record { each = a .each } in
+      let y : Each (λ i. getD s i 0 ≤ m) (at + n) k = record { each = b .each } in
+      record { each = each-join x y .each }
 
   pub at-most-all : {j m : ℕ} (n : ℕ) → AtMost s at j m → j ≤ n → n ≤ j → AtMost s at n m
-  at-most-all {j} {m} n a h k = record { all = each-all n (a .all) h k }
+  at-most-all {j} {m} n a h k = let e : j ≡ n = omega arith in rw e at a
 
 -- a local array of n cells, the first j of which hold g of the units from `at` on
 pub record Held (g : ℕ → ℕ) (s : List ℕ) (at n j : ℕ) (b : List ℕ) : Type 0 where

@@ -1,21 +1,20 @@
 -- Characters of one text, in another text that has the same units at some offset: so a stretch of a text may be copied and read in the copy.
-use Prim.Native.Nat.{ℕ, zero, suc, _+_, _-_, _≤_, _<_}
+use Prim.Native.Nat.{ℕ, _+_, _-_, _≤_, _<_}
 use mathlib.Core.Path.{_≡_, refl, sym, ap, _∙_}
-use mathlib.Core.List.{List, [], _∷_, _++_}
+use mathlib.Core.List.{List, _++_}
 use native.Mathlib.Omega.{arith}
 use native.Mathlib.Nat.{add-zero}
-use native.Mathlib.Numerals.{add-one}
 use lib.ListN.{length, getD, take, drop, length-drop, take-append-drop}
 use lib.Seq.{ext-getD, getD-take, getD-drop, length-take-le}
-use Rattle.types.specs.declared.Span.{Span}
 use Rattle.types.specs.declared.Item.{Item}
 use Rattle.types.specs.declared.Item.the-variants.{Character, Mark}
-use Rattle.forms.specs.Form.{Role, lead, Sequence, sequence, size, Form, asked, taken, firstOf, Content, character, mark, content, span, spanOf, withSpan, itemOf, encode}
+use Rattle.forms.specs.Form.{sequence, size, Form, asked, taken, firstOf, Content, character, mark, content, span, spanOf, withSpan, itemOf}
 use Rattle.laws.proofs.Sequences.{taken-all, taken-trailing, taken-full}
 use Rattle.laws.proofs.Items.{sequenceAt}
 use Rattle.laws.proofs.Characters.{content-reads}
 use Rattle.laws.proofs.Progress.{CharacterAt, character-onward}
-use Rattle.laws.proofs.Runs.{Counted, sum, sum-zero, sum-more, Next, between}
+use Rattle.laws.proofs.Runs.{Counted, sum, Next, between}
+use Rattle.laws.proofs.Values.{sum-along}
 
 -- as many units, equal one by one
 same-part : (a b : List ℕ) (k : ℕ) → k ≤ length a → k ≤ length b → ((i : ℕ) → i < k → getD a i 0 ≡ getD b i 0) → take k a ≡ take k b
@@ -73,12 +72,7 @@ module _ (F : Form) (s t : List ℕ) (p q v n : ℕ) (c : CharacterAt F s p v (s
                 ∙ ap (itemOf F q) (sym here);
           }
 
--- sums of equal values at two places
-pub sum-along : (f g : ℕ → ℕ) (x y k : ℕ) → ((i : ℕ) → i < k → f (x + i) ≡ g (y + i)) → sum f x k ≡ sum g y k
-sum-along f g x y zero h = sum-zero f x ∙ sym (sum-zero g y)
-sum-along f g x y (suc k) h = rw (← add-one k, sum-more f x k, sum-more g y k, sum-along f g x y k (λ i b. h i (omega arith)), h k (omega arith))
-
--- the offset in the text of an offset in the copy
+-- the offset in the first text of an offset in the second
 abbrev there : ℕ → ℕ → ℕ → ℕ
 there from to j = from + (j - to)
 

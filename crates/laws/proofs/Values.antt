@@ -1,50 +1,24 @@
--- Many values at once: a bound on so many code units of a text, encodings put into a buffer one behind the other, and runs that a loop writes.
+-- Many values at once: their encodings put into a buffer one behind the other, sums over them, and runs that a loop writes.
 use Prim.Native.Nat.{ℕ, zero, suc, _+_, _-_, _≤_, _<_}
 use mathlib.Core.Path.{_≡_, refl, sym, ap, _∙_}
 use mathlib.Core.Logic.{_≢_}
 use mathlib.Core.Bool.{Bool, true, false, _&&_, _||_}
 use mathlib.Core.List.{List, [], _∷_, _++_, append-assoc, append-nil}
 use native.Mathlib.Omega.{arith}
-use native.Mathlib.Nat.{le-trans, add-zero, add-assoc}
+use native.Mathlib.Nat.{add-zero, add-assoc}
 use native.Mathlib.Numerals.{add-one}
 use lib.Dec.{leb}
-use lib.Bits.{bitOr, or-add-and, and-le-l, and-le-r}
-use lib.ListN.{length, getD, set, take, drop, length-append, length-drop, take-append-drop}
-use lib.Seq.{length-take-le, take-at, drop-at, drop-drop, drop-cons, take-add, set-split, getD-drop, paste}
+use lib.ListN.{length, getD, set, take, drop, length-append, length-drop}
+use lib.Seq.{length-take-le, drop-drop, drop-cons, take-add, getD-drop, paste}
 use borrow.Author.Tests.{leb-true}
 use borrow.Author.Count.{below-none, below-more}
 use Rattle.forms.specs.Form.{Form, encode, encodeAll, span}
 use Rattle.forms.specs.Buffer.{withUnits}
+use Rattle.laws.proofs.Blocks.{AtLeast}
 use Rattle.laws.proofs.Table.{and-left, and-right}
 use Rattle.laws.proofs.Buffers.{with-none, with-one, with-join, length-with, copy-begin, copy-more, copy-length, copy-end}
 use Rattle.laws.proofs.Progress.{CharacterAt}
 use Rattle.laws.proofs.Runs.{Run, Wrote, Convertible, run-none, run-one, run-join, convertible-run, convertible-character, sum, sum-zero, sum-more}
-
--- the n units from `at` on are at most m
-pub record AtMost (s : List ℕ) (at n m : ℕ) : Type 0 where
-  pub each : (k : ℕ) → k < n → getD s (at + k) 0 ≤ m
-
--- or at least m
-pub record AtLeast (s : List ℕ) (at n m : ℕ) : Type 0 where
-  pub each : (k : ℕ) → k < n → m ≤ getD s (at + k) 0
-
-pub at-most-none : {s : List ℕ} {at m : ℕ} → AtMost s at 0 m
-at-most-none {s} {at} {m} = record { each = below-none (λ (k : ℕ). getD s (at + k) 0 ≤ m) }
-
-pub at-most-within : {s : List ℕ} {at n m : ℕ} (l : ℕ) → AtMost s at n m → m ≤ l → AtMost s at n l
-at-most-within l a h = record { each = λ k b. le-trans (a .each k b) h }
-
-or-left : (a b : ℕ) → a ≤ bitOr a b
-or-left a b = omega (arith, or-add-and a b, and-le-r a b)
-
-or-right : (a b : ℕ) → b ≤ bitOr a b
-or-right a b = omega (arith, or-add-and a b, and-le-l a b)
-
--- joined by OR, none exceeds the result
-pub at-most-more : {s : List ℕ} {at n m : ℕ} → AtMost s at n m → AtMost s at (n + 1) (bitOr m (getD s (at + n) 0))
-at-most-more {s} {at} {n} {m} a =
-    let u = getD s (at + n) 0 in
-    record { each = below-more (λ (k : ℕ). getD s (at + k) 0 ≤ bitOr m u) n (at-most-within (bitOr m u) a (or-left m u) .each) (or-right m u) }
 
 -- the n units from `at` on
 abbrev pub part : List ℕ → ℕ → ℕ → List ℕ
@@ -155,10 +129,10 @@ module _ {G : Form} {s : List ℕ} where
       let q : k + (c - k) ≡ c = omega arith in
       rw q at (encoded-join r h a b)
 
--- sums over a block, by what is summed at each place
-pub sum-same : (f g : ℕ → ℕ) (at k : ℕ) → ((i : ℕ) → i < k → f (at + i) ≡ g (at + i)) → sum f at k ≡ sum g at k
-sum-same f g at zero h = sum-zero f at ∙ sym (sum-zero g at)
-sum-same f g at (suc k) h = rw (← add-one k, sum-more f at k, sum-more g at k, sum-same f g at k (λ i b. h i (omega arith)), h k (omega arith))
+-- sums of values that are equal one by one, wherever they stand
+pub sum-along : (f g : ℕ → ℕ) (x y k : ℕ) → ((i : ℕ) → i < k → f (x + i) ≡ g (y + i)) → sum f x k ≡ sum g y k
+sum-along f g x y zero h = sum-zero f x ∙ sym (sum-zero g y)
+sum-along f g x y (suc k) h = rw (← add-one k, sum-more f x k, sum-more g y k, sum-along f g x y k (λ i b. h i (omega arith)), h k (omega arith))
 
 pub sum-plus : (f g : ℕ → ℕ) (at k : ℕ) → sum (λ i. f i + g i) at k ≡ sum f at k + sum g at k
 sum-plus f g at zero = sum-zero (λ i. f i + g i) at ∙ sym (rw (sum-zero f at, sum-zero g at))
@@ -179,10 +153,6 @@ module _ {F G : Form} {s : List ℕ} where
       {at k from c n u : ℕ} {b d o : List ℕ} → Run F G s at k (encodeAll G (part b from c)) → Encoded G b from c d n u o → Wrote F G s at k (u - n) d n o
   wrote-encoded {at} {k} {from} {c} {n} {u} {b} {d} {o} r e =
       record { out = encodeAll G (part b from c); run = r; counted = omega (arith, e .counted); cells = e .cells }
-
-  -- a run of none
-  pub wrote-none : {at n : ℕ} {d : List ℕ} → at ≤ length s → Wrote F G s at 0 0 d n d
-  wrote-none {at} {n} {d} h = record { out = []; run = run-none h; counted = refl; cells = with-none d n }
 
 -- a loop that writes a run: k units from `at` on were written from n up to `end`
 pub record WrittenTo (F G : Form) (s : List ℕ) (at k : ℕ) (d : List ℕ) (n end : ℕ) (o : List ℕ) : Type 0 where

@@ -1,6 +1,6 @@
 -- When a lossy decoding gives each of its answers.
 use Prim.Native.Nat.{ℕ, _≤_, _<_}
-use mathlib.Core.Path.{_≡_, refl, sym, ap, _∙_}
+use mathlib.Core.Path.{_≡_, sym, ap, _∙_}
 use mathlib.Core.Logic.{_↔_, _⊎_, inl, inr}
 use mathlib.Core.List.{List}
 use native.Mathlib.Omega.{arith}
@@ -12,7 +12,7 @@ use Rattle.types.specs.declared.Item.{Item}
 use Rattle.types.specs.declared.Refusal.{Refusal}
 use Rattle.forms.specs.Fault.{numberOf, limit, refusal}
 use Rattle.forms.specs.Form.{Form, items}
-use Rattle.forms.specs.Lossy.{Outcome, decoded, refused, lossy}
+use Rattle.forms.specs.Lossy.{decoded, refused, lossy}
 use Rattle.demand3.proofs.LossyCalls.{lossy-over, lossy-short-values, lossy-short-starts, lossy-all}
 
 -- 1, then 7 where either buffer is short, and no other refusal

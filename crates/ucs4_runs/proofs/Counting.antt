@@ -1,28 +1,27 @@
 -- How many units a block of UCS-4 becomes: by the bounds that its units reach.
-use Prim.Native.Nat.{ℕ, zero, suc, _+_, _-_, _≤_, _<_}
-use mathlib.Core.Path.{_≡_, refl, sym, ap, _∙_}
-use mathlib.Core.Logic.{_≢_, ⊎-elim}
+use Prim.Native.Nat.{ℕ, suc, _+_, _-_, _≤_, _<_}
+use mathlib.Core.Path.{_≡_, refl, ap, _∙_}
+use mathlib.Core.Logic.{_≢_}
 use mathlib.Core.Bool.{Bool, true, false, _&&_, _||_}
-use mathlib.Core.List.{List, [], _∷_, _++_}
+use mathlib.Core.List.{List, []}
 use native.Mathlib.Omega.{arith}
 use native.Mathlib.Nat.{add-zero, zero-add}
-use native.Mathlib.Numerals.{add-one}
 use native.Mathlib.Decide.{decLt}
 use lib.Dec.{leb, ltb}
 use lib.ListN.{length, getD}
-use borrow.Author.Tests.{le-leb, lt-leb, leb-false, ltb-false, le-ltb, lt-ltb}
+use borrow.Author.Tests.{le-leb, lt-leb, leb-false, ltb-false}
 use borrow.Author.Count.{below-none, below-more}
-use Rattle.forms.specs.Form.{Form, encode, span}
+use Rattle.forms.specs.Form.{Form, encode}
 use Rattle.forms.specs.Forms.{ucs4, utf16}
 use Rattle.forms.specs.Layout.{lowestOf}
 use Rattle.laws.proofs.Runs.{Counted, sum, sum-zero, sum-more, Next, between}
-use Rattle.laws.proofs.Values.{AtMost, neither-left, neither-right, and-false, sum-same, sum-plus, sum-ones, sum-none}
+use Rattle.laws.proofs.Blocks.{AtMost}
+use Rattle.laws.proofs.Values.{neither-left, neither-right, and-false, sum-along, sum-plus, sum-ones, sum-none}
 use Rattle.tables.specs.ByteForms.{byteForm, layoutOf}
 use Rattle.tables.specs.declared.ByteForm.{ByteForm}
 use Rattle.tables.specs.declared.ByteForm.the-variants.{FssUtf, UtfEbcdic}
 use Rattle.tables.proofs.ByteLayouts.{encode-length, rise}
 use Rattle.encoder.specs.declared.Target.the-variants as Target
-use Rattle.encoder.specs.Target.{targetForm}
 use Rattle.encoder.proofs.Targets.{encode-seven}
 use Rattle.encoder.proofs.WholeUnits.{below-surrogates, above-surrogates, pair}
 use Rattle.ucs4_runs.specs.Bounds.{number, reached, reachedAt, unitsAt}
@@ -150,7 +149,7 @@ module _ (f : ByteForm) where
   counted-bytes s at k m i a h =
       let u : (j : ℕ) → j < k → getD s (at + j) 0 < 0x80000000 = λ j b. omega (arith, a .each j b) in
       let q : sum (λ i. length (encode (byteForm f) (getD s i 0))) at k ≡ k + (sum (front s) at k + sum (back s) at k) =
-      sum-same (λ i. length (encode (byteForm f) (getD s i 0))) (λ i. 1 + (front s i + back s i)) at k (λ j b. byte-length (getD s (at + j) 0) (u j b))
+      sum-along (λ i. length (encode (byteForm f) (getD s i 0))) (λ i. 1 + (front s i + back s i)) at at k (λ j b. byte-length (getD s (at + j) 0) (u j b))
       ∙ sum-plus (λ i. 1) (λ i. front s i + back s i) at k
       ∙ rw (sum-ones at k, sum-plus (front s) (back s) at k) in
       rw (← q) (counted-units (byteForm f) s at k i (λ j b. (u j b, some (encode (byteForm f) (getD s (at + j) 0)) _ (byte-length (getD s (at + j) 0) (u j b)), byte-seven f (getD s (at + j) 0))))
@@ -245,7 +244,7 @@ units-most s i = omega (arith, number-most (leb 0x10000 (getD s i 0)))
 
 pub counted-utf16 : (s : List ℕ) (at k : ℕ) → at + k ≤ length s → Clean s at k false → Counted ucs4 utf16 s at k (sum (unitsAt s) at k)
 counted-utf16 s at k i c =
-    let q = sum-same (λ i. length (encode utf16 (getD s i 0))) (unitsAt s) at k (λ j b. held-length (getD s (at + j) 0) (c .each refl j b)) in
+    let q = sum-along (λ i. length (encode utf16 (getD s i 0))) (unitsAt s) at at k (λ j b. held-length (getD s (at + j) 0) (c .each refl j b)) in
     rw (← q)
     (counted-units utf16 s at k i
     (λ j b. let u = c .each refl j b in (omega (arith, u .below), some (encode utf16 (getD s (at + j) 0)) _ (held-length (getD s (at + j) 0) u), encode-seven Target.Utf16 (getD s (at + j) 0))))
@@ -254,6 +253,6 @@ counted-utf16 s at k i c =
 pub utf16-one : {s : List ℕ} {at k m : ℕ} → at + k ≤ length s → AtMost s at k m → m < 0xD800 → Counted ucs4 utf16 s at k k
 utf16-one {s} {at} {k} {m} i a h =
     let one : (j : ℕ) → j < k → length (encode utf16 (getD s (at + j) 0)) ≡ 1 = λ j b. ap length (below-surrogates (getD s (at + j) 0) (omega (arith, a .each j b))) in
-    let q : sum (λ i. length (encode utf16 (getD s i 0))) at k ≡ k = sum-same (λ i. length (encode utf16 (getD s i 0))) (λ i. 1) at k one ∙ sum-ones at k in
+    let q : sum (λ i. length (encode utf16 (getD s i 0))) at k ≡ k = sum-along (λ i. length (encode utf16 (getD s i 0))) (λ i. 1) at at k one ∙ sum-ones at k in
     rw q at
     (counted-units utf16 s at k i (λ j b. (omega (arith, a .each j b), some (encode utf16 (getD s (at + j) 0)) 0 (one j b), encode-seven Target.Utf16 (getD s (at + j) 0))))

@@ -3,14 +3,14 @@ use encoder::Target;
 use tables::ByteForm;
 use types::Run;
 ghost use mathlib.Core.Path.{_≡_};
-ghost use mathlib.Core.Bool.{Bool, true, false};
+ghost use mathlib.Core.Bool.{false};
 ghost use Prim.Native.Nat.{_+_, _<_, _≤_};
 ghost use lib.ListN.{length};
 ghost use Rattle.forms.specs.Forms.{ucs4, utf16};
 ghost use Rattle.tables.specs.ByteForms.{byteForm};
 ghost use Rattle.encoder.specs.Target.{targetForm};
 ghost use Rattle.laws.proofs.Runs.{Counted, sum};
-ghost use Rattle.ucs4_runs.specs.Bounds.{number, reachedAt, unitsAt};
+ghost use Rattle.ucs4_runs.specs.Bounds.{number, reachedAt};
 
 fn number(test: bool) -> u32
     ensures { λ r. ⌜ (r ≡ number test) × (r ≤ 1) ⌝ }

@@ -1,9 +1,8 @@
 -- Blocks without surrogates: each unit is a character by itself, and its value.
-use Prim.Native.Nat.{ℕ, zero, suc, _+_, _-_, _≤_, _<_}
-use mathlib.Core.Path.{_≡_, refl, sym, ap, _∙_}
-use mathlib.Core.Logic.{_≢_}
+use Prim.Native.Nat.{ℕ, _+_, _-_, _≤_, _<_}
+use mathlib.Core.Path.{_≡_, sym, ap, _∙_}
 use mathlib.Core.Bool.{false}
-use mathlib.Core.List.{List, [], _∷_, _++_}
+use mathlib.Core.List.{List, [], _∷_}
 use native.Mathlib.Omega.{arith}
 use lib.ListN.{length, getD, drop, length-append}
 use lib.Seq.{take-at, getD-take, getD-drop}
@@ -13,7 +12,8 @@ use Rattle.forms.specs.Forms.{utf16, fssUtf, ucs4}
 use Rattle.forms.specs.Buffer.{withUnits}
 use Rattle.laws.proofs.Progress.{CharacterAt}
 use Rattle.laws.proofs.Runs.{Run, Convertible, Wrote, convertible-run}
-use Rattle.laws.proofs.Values.{AtMost, part, part-length, Encodable, Encoded, Room, singles-run, singles-encodable, singles-room, own-encodings, wrote-encoded}
+use Rattle.laws.proofs.Blocks.{AtMost}
+use Rattle.laws.proofs.Values.{part, part-length, Encodable, Encoded, Room, singles-run, singles-encodable, singles-room, own-encodings, wrote-encoded}
 use Rattle.encoder.proofs.WholeUnits.{ucs4-encoding}
 use Rattle.block_encoder.proofs.FssUtf.{one-byte}
 use Rattle.utf16_blocks.specs.Units.{isSurrogate, NoSurrogates}

@@ -3,7 +3,7 @@ ghost use mathlib.Core.Path.{_≡_};
 ghost use mathlib.Core.Bool.{false};
 ghost use Prim.Native.Nat.{_+_, _<_, _≤_};
 ghost use lib.ListN.{length};
-ghost use Rattle.laws.proofs.Values.{AtMost};
+ghost use Rattle.laws.proofs.Blocks.{AtMost};
 ghost use Rattle.utf16_blocks.specs.Units.{isHigh, isLow, isSurrogate, Paired, NoSurrogates};
 
 pub fn high(unit: u16) -> bool

@@ -1,19 +1,20 @@
 -- How many units whole characters of UTF-16 become: counted unit by unit.
-use Prim.Native.Nat.{ℕ, zero, suc, _+_, _-_, _*_, _≤_, _<_}
+use Prim.Native.Nat.{ℕ, _+_, _-_, _≤_, _<_}
 use mathlib.Core.Path.{_≡_, refl, sym, ap, _∙_}
 use mathlib.Core.Logic.{_≢_}
-use mathlib.Core.Bool.{Bool, true, false, not, _&&_, _||_}
-use mathlib.Core.List.{List, [], _∷_}
+use mathlib.Core.Bool.{Bool, true, false, not, _&&_}
+use mathlib.Core.List.{List, []}
 use native.Mathlib.Omega.{arith}
 use native.Mathlib.Nat.{add-zero, zero-add}
 use native.Mathlib.Decide.{decLt}
 use lib.Dec.{leb, ltb}
 use lib.ListN.{length, getD}
 use borrow.Author.Tests.{le-leb, lt-leb, le-ltb, lt-ltb}
-use Rattle.forms.specs.Form.{Form, encode, span}
+use Rattle.forms.specs.Form.{encode}
 use Rattle.forms.specs.Forms.{utf16, fssUtf, utfEbcdic, ucs4}
 use Rattle.laws.proofs.Runs.{Counted, sum, sum-zero, sum-more, Next, between}
-use Rattle.laws.proofs.Values.{AtMost, sum-ones}
+use Rattle.laws.proofs.Blocks.{AtMost}
+use Rattle.laws.proofs.Values.{sum-ones}
 use Rattle.tables.specs.declared.ByteForm.the-variants as Byte
 use Rattle.tables.proofs.ByteLayouts.{encode-length}
 use Rattle.encoder.specs.declared.Target.{Target}
@@ -23,7 +24,7 @@ use Rattle.encoder.proofs.Targets.{encode-seven}
 use Rattle.encoder.proofs.WholeUnits.{ucs4-encoding}
 use Rattle.block_encoder.proofs.FssUtf.{one-byte, two-bytes, three-bytes, four-bytes}
 use Rattle.block_encoder.proofs.UtfEbcdic as ebcdic
-use Rattle.utf16_blocks.specs.Units.{isHigh, isLow, isSurrogate, number, Paired, Whole, bytesAt, ebcdicAt, valuesAt, plainOf}
+use Rattle.utf16_blocks.specs.Units.{isHigh, isLow, isSurrogate, number, Whole, bytesAt, ebcdicAt, valuesAt, plainOf}
 use Rattle.utf16_blocks.proofs.Tests.{high-bounds, low-bounds, high-false, low-false, low-not-high, below-not-high, below-not-low, differ}
 use Rattle.utf16_blocks.proofs.Pairs.{alone, paired-at, pairValue}
 

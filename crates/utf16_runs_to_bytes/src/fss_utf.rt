@@ -6,7 +6,8 @@ ghost use lib.ListN.{length};
 ghost use Rattle.forms.specs.Forms.{utf16, fssUtf};
 ghost use Rattle.forms.specs.Buffer.{withUnits};
 ghost use Rattle.laws.proofs.Runs.{Convertible, Wrote};
-ghost use Rattle.laws.proofs.Values.{AtMost, Encodable, Encoded, Room, part};
+ghost use Rattle.laws.proofs.Blocks.{AtMost};
+ghost use Rattle.laws.proofs.Values.{Encodable, Encoded, Room, part};
 
 // Character by character, until so many units have passed. Each length has its own way round the loop.
 fn each(src: &[u16], at: usize, count: usize, dst: &mut [u8], written: usize) -> Run

@@ -1,6 +1,6 @@
 -- Bytes of UTF-EBCDIC that stand for I8 bytes below A0: characters by themselves.
 use Prim.Native.Nat.{ℕ, _+_, _≤_, _<_}
-use mathlib.Core.Path.{_≡_, refl, sym, _∙_}
+use mathlib.Core.Path.{_≡_}
 use mathlib.Core.List.{List, [], _∷_, map}
 use native.Mathlib.Omega.{arith}
 use lib.ListN.{length, getD}
@@ -30,7 +30,7 @@ pub ascii-counted : (t : Target) {s : List ℕ} {at k : ℕ} → at + k ≤ leng
 ascii-counted t {s} {at} {k} h a =
     counted-units k (omega arith)
     (λ j i.
-    let l : i8Of (getD s (at + j) 0) < 0x80 = omega (arith, a .all .each j i, exchanged-at s (at + j)) in
+    let l : i8Of (getD s (at + j) 0) < 0x80 = omega (arith, a .each j i, exchanged-at s (at + j)) in
     counted-ascii t (single-at s (at + j) (omega arith) (omega arith)) l)
 
 -- an ASCII character that is written as itself
@@ -46,6 +46,6 @@ pub ascii-wrote :
 ascii-wrote {G} {s} {b} {d} {o} {at} {n} {i} {k} {m} {c} e h a l w f y g =
     wrote-block (omega arith) (w .long)
     (λ j x.
-    let v : i8Of (getD s (at + j) 0) < 0x80 = omega (arith, a .all .each j (omega arith), exchanged-at s (at + j)) in
+    let v : i8Of (getD s (at + j) 0) < 0x80 = omega (arith, a .each j (omega arith), exchanged-at s (at + j)) in
     ascii-run (omega arith) v (e (i8Of (getD s (at + j) 0)) v) (w .each j (omega arith)))
     y g

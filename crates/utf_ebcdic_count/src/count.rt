@@ -1,10 +1,9 @@
 // How many code units of the target the characters from an offset on become.
 use encoder::Target;
 use types::Run;
-ghost use mathlib.Core.Path.{_≡_};
 ghost use mathlib.Core.List.{map};
 ghost use Prim.Native.Nat.{_+_, _<_, _≤_};
-ghost use lib.ListN.{length, getD};
+ghost use lib.ListN.{length};
 ghost use Rattle.forms.specs.Exchange.{i8Of};
 ghost use Rattle.forms.specs.Forms.{utfEbcdic};
 ghost use Rattle.laws.proofs.Runs.{Counted};

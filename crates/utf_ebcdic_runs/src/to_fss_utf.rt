@@ -1,6 +1,5 @@
 // Written as FSS-UTF.
 use types::Run;
-ghost use mathlib.Core.Path.{_≡_};
 ghost use Prim.Native.Nat.{_+_, _≤_};
 ghost use lib.ListN.{length};
 ghost use Rattle.forms.specs.Exchange.{i8Of};

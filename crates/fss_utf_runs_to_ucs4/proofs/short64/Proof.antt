@@ -1,6 +1,6 @@
-use Prim.Native.Nat.{ℕ, _+_, _-_, _≤_, _<_}
+use Prim.Native.Nat.{ℕ, _-_, _≤_, _<_}
 use mathlib.Core.Path.{_≡_, refl}
-use mathlib.Core.List.{List, [], _∷_}
+use mathlib.Core.List.{[], _∷_}
 use Rattle.forms.specs.Form.{encode}
 use Rattle.forms.specs.Forms.{ucs4}
 use Rattle.encoder.proofs.WholeUnits.{ucs4-encoding}

@@ -1,13 +1,10 @@
-use Prim.Native.Nat.{_+_, _-_, _≤_}
+use Prim.Native.Nat.{_-_}
 use native.Mathlib.Omega.{arith}
-use lib.ListN.{length as long}
-use denote.Ref.{now}
 use Rattle.forms.specs.Forms.{utf16, ucs4}
 use Rattle.laws.proofs.FourForms.{utf16-laws}
 use Rattle.laws.proofs.Progress.{character-small, character-onward}
-use Rattle.laws.proofs.Runs.{Run, run-one, convertible-stands, convertible-character}
+use Rattle.laws.proofs.Runs.{run-one, convertible-stands, convertible-character}
 use Rattle.laws.proofs.Values.{WrittenTo, written-none, written-length, written-left, written-room, written-join, written-wrote}
-use borrow.Author.Needs.{needs}
 use Rattle.utf16_runs_to_ucs4.proofs.each.Statement.{statement}
 use Rattle.utf16_runs_to_ucs4.proofs.each.Tie as tie
 

@@ -1,7 +1,5 @@
-use Prim.Native.Nat.{_+_, _-_, _≤_}
+use Prim.Native.Nat.{_-_}
 use native.Mathlib.Omega.{arith}
-use lib.ListN.{length as long}
-use denote.Ref.{now}
 use Rattle.forms.specs.Forms.{utf16, ucs4}
 use Rattle.laws.proofs.Values.{WrittenTo, written-none, written-length, written-left, written-run, written-wrote, written-within}
 use borrow.Author.Needs.{needs}

@@ -1,5 +1,5 @@
 use mathlib.Core.Path.{_≡_}
-use mathlib.Core.Bool.{true, false}
+use mathlib.Core.Bool.{true}
 use native.Mathlib.Omega.{arith}
 use Rattle.utf16_blocks.specs.Units.{isHigh}
 use Rattle.utf16_blocks.proofs.Tests.{differ, high-bounds, low-bounds}

@@ -1,5 +1,5 @@
 use native.Mathlib.Omega.{arith}
-use Rattle.laws.proofs.Values.{at-most-within}
+use Rattle.laws.proofs.Blocks.{at-most-looser}
 use borrow.Author.Needs.{needs}
 use Rattle.block_encoder.proofs.fss_utf.block.Statement.{statement}
 use Rattle.block_encoder.proofs.fss_utf.block.Tie as tie
@@ -8,7 +8,7 @@ joined-requires : tie.Need-joined-requires
 joined-requires c κs = search needs
 
 copy-requires : tie.Need-copy-requires
-copy-requires c κs = let p = c .before .before .before .before .before .pre in (p .0, p .1, at-most-within 0x7F (c .before .before .joined .ensures) (omega (arith, c .before .if1 .taken)))
+copy-requires c κs = let p = c .before .before .before .before .before .pre in (p .0, p .1, at-most-looser 0x7F (c .before .before .joined .ensures) (omega (arith, c .before .if1 .taken)))
 
 same-length : tie.Need-same-length
 same-length c = search needs
@@ -17,7 +17,7 @@ returns : tie.Need-returns
 returns c = search needs
 
 twos-requires : tie.Need-twos-requires
-twos-requires c κs = let p = c .before .before .before .before .before .before .pre in (p .0, p .1, at-most-within 0x7FF (c .before .before .before .joined .ensures) (omega (arith, c .before .if2 .taken)))
+twos-requires c κs = let p = c .before .before .before .before .before .before .pre in (p .0, p .1, at-most-looser 0x7FF (c .before .before .before .joined .ensures) (omega (arith, c .before .if2 .taken)))
 
 same-length-2 : tie.Need-same-length-2
 same-length-2 c = search needs
@@ -33,7 +33,7 @@ threes-requires c κs =
     let e = c .before .before .before in
     let j = e .before .before .before in
     let p = j .before .before .before .pre in
-    (p .0, p .1, at-most-within 0xFFFF (j .joined .ensures) (omega (arith, e .if3 .taken)), c .before .before .all-reach .ensures (c .before .if4 .taken))
+    (p .0, p .1, at-most-looser 0xFFFF (j .joined .ensures) (omega (arith, e .if3 .taken)), c .before .before .all-reach .ensures (c .before .if4 .taken))
 
 same-length-3 : tie.Need-same-length-3
 same-length-3 c = search needs

@@ -1,8 +1,8 @@
 use native.Mathlib.Omega.{arith}
 use mathlib.Core.Path.{_≡_, ap, sym}
 use mathlib.Core.List.{List, [], _∷_}
-use Prim.Native.Nat.{ℕ, _+_, _/_, _%_}
-use lib.ListN.{length, length-set}
+use Prim.Native.Nat.{ℕ, _+_}
+use lib.ListN.{length}
 use denote.Ref.{now}
 use Rattle.forms.specs.Form.{encode}
 use Rattle.forms.specs.Forms.{fssUtf}

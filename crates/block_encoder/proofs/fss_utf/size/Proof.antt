@@ -1,10 +1,6 @@
-use native.Mathlib.Omega.{arith}
-use mathlib.Core.Path.{_≡_, ap, sym}
-use mathlib.Core.List.{List}
-use Prim.Native.Nat.{ℕ}
-use lib.ListN.{length, getD}
+use mathlib.Core.Path.{ap, sym}
+use lib.ListN.{length}
 use Rattle.block_encoder.proofs.FssUtf.{one-byte, two-bytes}
-use borrow.Author.Needs.{needs}
 use Rattle.block_encoder.proofs.fss_utf.size.Statement.{statement}
 use Rattle.block_encoder.proofs.fss_utf.size.Tie as tie
 

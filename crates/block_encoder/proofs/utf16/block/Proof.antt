@@ -1,5 +1,5 @@
 use native.Mathlib.Omega.{arith}
-use Rattle.laws.proofs.Values.{at-most-within}
+use Rattle.laws.proofs.Blocks.{at-most-looser}
 use borrow.Author.Needs.{needs}
 use Rattle.block_encoder.proofs.utf16.block.Statement.{statement}
 use Rattle.block_encoder.proofs.utf16.block.Tie as tie
@@ -8,7 +8,7 @@ joined-requires : tie.Need-joined-requires
 joined-requires c κs = search needs
 
 copy-requires : tie.Need-copy-requires
-copy-requires c κs = let p = c .before .before .before .before .before .pre in (p .0, p .1, at-most-within 0xFFFF (c .before .before .joined .ensures) (omega (arith, c .before .if1 .taken)))
+copy-requires c κs = let p = c .before .before .before .before .before .pre in (p .0, p .1, at-most-looser 0xFFFF (c .before .before .joined .ensures) (omega (arith, c .before .if1 .taken)))
 
 same-length : tie.Need-same-length
 same-length c = search needs

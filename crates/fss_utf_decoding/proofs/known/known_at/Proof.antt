@@ -1,6 +1,5 @@
 use mathlib.Core.Path.{refl}
 use denote.Ref.{now}
-use lib.ListN.{getD}
 use Rattle.fss_utf_decoding.proofs.KnownBytes.{begins, bytes-one, bytes-two, bytes-three, bytes-four, inside-two, inside-three}
 use borrow.Author.Needs.{needs}
 use Rattle.fss_utf_decoding.proofs.known.known_at.Statement.{statement}

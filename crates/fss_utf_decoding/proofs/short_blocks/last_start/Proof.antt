@@ -1,6 +1,5 @@
 use Rattle.fss_utf_decoding.proofs.ShortRuns.{last-start-of}
 use borrow.Author.Needs.{needs}
-use native.Mathlib.Omega.{arith}
 use Rattle.fss_utf_decoding.proofs.short_blocks.last_start.Statement.{statement}
 use Rattle.fss_utf_decoding.proofs.short_blocks.last_start.Tie as tie
 

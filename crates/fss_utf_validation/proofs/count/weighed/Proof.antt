@@ -1,6 +1,4 @@
-use mathlib.Core.Path.{sym}
-use Prim.Native.Nat.{_≤_}
-use Rattle.laws.proofs.Runs.{Counted, counted-none}
+use Rattle.laws.proofs.Runs.{counted-none}
 use Rattle.fss_utf_validation.proofs.TargetWeights.{utf16-weighs, ucs4-weighs, utfEbcdic-weighs}
 use borrow.Author.Needs.{needs}
 use native.Mathlib.Omega.{arith}

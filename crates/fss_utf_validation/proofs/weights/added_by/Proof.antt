@@ -1,4 +1,3 @@
-use mathlib.Core.Path.{refl}
 use Rattle.fss_utf_validation.specs.Validation.{added}
 use borrow.Author.Needs.{needs}
 use native.Mathlib.Omega.{arith}

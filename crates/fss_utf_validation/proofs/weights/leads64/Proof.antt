@@ -1,6 +1,4 @@
-use Prim.Native.Nat.{_+_, _-_, _≤_}
-use denote.Ref.{now}
-use lib.ListN.{length, getD}
+use Prim.Native.Nat.{_-_, _≤_}
 use Rattle.fss_utf_validation.proofs.Validating.{Adding, adding-none, adding-more, adding-end}
 use Rattle.fss_utf_validation.specs.Validation.{leadAt}
 use borrow.Author.Needs.{needs}

@@ -1,5 +1,4 @@
 use native.Mathlib.Omega.{arith}
-use Prim.Native.Nat.{_≤_}
 use borrow.Author.Needs.{needs}
 use Rattle.transcode_from_bytes.proofs.bytes_to_ucs4.write_run.Statement.{statement}
 use Rattle.transcode_from_bytes.proofs.bytes_to_ucs4.write_run.Tie as tie

@@ -1,5 +1,4 @@
-use Prim.Native.Nat.{_+_, _-_, _≤_}
-use mathlib.Core.Path.{_≡_}
+use Prim.Native.Nat.{_-_, _≤_}
 use native.Mathlib.Omega.{arith}
 use Rattle.utf16_blocks.proofs.Tests.{PairedUnless, paired-none, paired-more, paired-end}
 use borrow.Author.Needs.{needs}

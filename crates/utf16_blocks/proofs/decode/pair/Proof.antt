@@ -1,7 +1,6 @@
 use Prim.Native.Nat.{_+_, _≤_, _<_}
 use lib.ListN.{length, getD}
 use native.Mathlib.Omega.{arith}
-use mathlib.Core.Path.{_≡_}
 use denote.Ref.{now}
 use Rattle.utf16_blocks.proofs.Pairs.{paired-at, pair-stands}
 use borrow.Author.Needs.{needs}

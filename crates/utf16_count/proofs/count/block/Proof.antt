@@ -1,5 +1,5 @@
 use native.Mathlib.Omega.{arith}
-use mathlib.Core.Path.{_≡_, sym, _∙_}
+use mathlib.Core.Path.{sym, _∙_}
 use denote.Ref.{now}
 use Rattle.laws.proofs.Runs.{counted-none}
 use Rattle.utf16_blocks.proofs.Tests.{whole-all, whole-but-last}

@@ -1,11 +1,10 @@
-use Prim.Native.Nat.{ℕ, _+_, _-_, _≤_}
+use Prim.Native.Nat.{_+_, _-_, _≤_}
 use mathlib.Core.Path.{_≡_, refl, sym}
 use native.Mathlib.Omega.{arith}
-use lib.ListN.{getD}
 use denote.Ref.{now}
 use Rattle.laws.proofs.Runs.{sum as total, sum-zero, sum-more, sum-most}
 use Rattle.utf16_blocks.specs.Units.{bytesAt}
-use Rattle.utf16_count.proofs.Counting.{bytes-most, surrogate-reaches}
+use Rattle.utf16_count.proofs.Counting.{bytes-most}
 use borrow.Author.Needs.{needs}
 use Rattle.utf16_count.proofs.count.bytes.Statement.{statement}
 use Rattle.utf16_count.proofs.count.bytes.Tie as tie

@@ -1,8 +1,6 @@
-use Prim.Native.Nat.{_+_, _-_, _≤_}
-use mathlib.Core.Path.{_≡_}
+use Prim.Native.Nat.{_-_}
 use native.Mathlib.Omega.{arith}
 use lib.ListN.{length as long}
-use denote.Ref.{now}
 use Rattle.forms.specs.Forms.{utf16}
 use Rattle.laws.proofs.Runs.{Counted, counted-none, counted-join}
 use Rattle.encoder.specs.Target.{targetForm}

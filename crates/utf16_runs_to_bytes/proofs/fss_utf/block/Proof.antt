@@ -1,18 +1,17 @@
-use mathlib.Core.Path.{_≡_}
 use native.Mathlib.Omega.{arith}
 use lib.ListN.{replicate}
 use denote.Ref.{now}
-use Rattle.laws.proofs.Values.{AtMost, at-most-within}
+use Rattle.laws.proofs.Blocks.{AtMost, at-most-looser}
 use Rattle.utf16_blocks.proofs.Singles.{low-plain, ascii-room, ascii-wrote, plain-encodable, plain-room, plain-wrote, local-encodable, local-room, local-wrote}
 use borrow.Author.Needs.{needs}
 use Rattle.utf16_runs_to_bytes.proofs.fss_utf.block.Statement.{statement}
 use Rattle.utf16_runs_to_bytes.proofs.fss_utf.block.Tie as tie
 
 ascii : (t : tie.Then1) → let z = t .before .before .before .before .args in AtMost (now (z .src)) (z .at) (z .count) 0x7F
-ascii t = at-most-within 0x7F (t .before .joined .ensures) (omega (arith, t .if1 .taken))
+ascii t = at-most-looser 0x7F (t .before .joined .ensures) (omega (arith, t .if1 .taken))
 
 short : (t : tie.Then2) → let z = t .before .before .before .before .before .args in AtMost (now (z .src)) (z .at) (z .count) 0x7FF
-short t = at-most-within 0x7FF (t .before .before .joined .ensures) (omega (arith, t .if2 .taken))
+short t = at-most-looser 0x7FF (t .before .before .joined .ensures) (omega (arith, t .if2 .taken))
 
 joined-requires : tie.Need-joined-requires
 joined-requires c κs = search needs

@@ -1,13 +1,13 @@
 use native.Mathlib.Omega.{arith}
 use denote.Ref.{now}
-use Rattle.laws.proofs.Values.{AtMost, at-most-within}
+use Rattle.laws.proofs.Blocks.{AtMost, at-most-looser}
 use Rattle.utf16_blocks.proofs.Singles.{ascii-room, ascii-wrote}
 use borrow.Author.Needs.{needs}
 use Rattle.utf16_runs_to_bytes.proofs.fss_utf.rest.Statement.{statement}
 use Rattle.utf16_runs_to_bytes.proofs.fss_utf.rest.Tie as tie
 
 ascii : (t : tie.Then1) → let z = t .before .before .before .before .args in AtMost (now (z .src)) (z .at) (z .count) 0x7F
-ascii t = at-most-within 0x7F (t .before .joined .ensures) (omega (arith, t .if1 .taken))
+ascii t = at-most-looser 0x7F (t .before .joined .ensures) (omega (arith, t .if1 .taken))
 
 joined-requires : tie.Need-joined-requires
 joined-requires c κs = search needs

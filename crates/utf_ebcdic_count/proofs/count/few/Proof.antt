@@ -1,4 +1,4 @@
-use Prim.Native.Nat.{_+_, _-_, _≤_, _<_}
+use Prim.Native.Nat.{_+_, _-_, _<_}
 use lib.ListN.{length, getD}
 use Rattle.forms.specs.Exchange.{i8Of}
 use denote.Ref.{now}

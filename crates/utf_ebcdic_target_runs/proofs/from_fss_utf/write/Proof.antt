@@ -1,6 +1,5 @@
-use Prim.Native.Nat.{_+_, _-_, _≤_, _<_}
-use mathlib.Core.Path.{_≡_}
-use lib.ListN.{length, getD}
+use Prim.Native.Nat.{_+_, _-_}
+use lib.ListN.{length}
 use denote.Ref.{now}
 use Rattle.forms.specs.Form.{span}
 use Rattle.forms.specs.Forms.{fssUtf, utfEbcdic}
