@@ -1,2 +1,2 @@
-pub mod Shorts
 pub mod ByteCharacters
+pub mod Shorts

@@ -1,4 +1,2 @@
 pub mod Validating
 pub mod WellFormed
-pub mod TargetWeights
-pub mod Counting

@@ -13,7 +13,7 @@ use borrow.Author.Tests.{lt-leb, lt-ltb, le-ltb}
 use Rattle.laws.proofs.Runs.{sum, sum-zero, sum-more, sum-join, sum-most}
 use Rattle.laws.proofs.Values.{sum-along, sum-plus, sum-ones, sum-none, neither-left, neither-right}
 use Rattle.laws.proofs.Blocks.{each-none, each-more, each-join, each-all}
-use Rattle.fss_utf_validation.specs.declared.weights.Weights.{Weights}
+use Rattle.fss_utf_validation.specs.declared.Weights.{Weights}
 use Rattle.fss_utf_validation.specs.Validation.{isTrailingByte, illFormedAt, Validated, bit, reached, splits, added, addedAt, leadAt, reachedAt, splitAt, LeadWeights, Blocks, Whole, Padded}
 
 pub bit-most : (x : Bool) → bit x ≤ 1

@@ -19,7 +19,7 @@ use Rattle.laws.proofs.Table.{and-left, and-right}
 use Rattle.laws.proofs.Values.{neither-left as or-left, neither-right as or-right, and-false}
 use Rattle.tables.proofs.ByteLayouts.{not-excluded}
 use Rattle.tables.specs.declared.ByteForm.the-variants.{FssUtf}
-use Rattle.fss_utf_validation.specs.declared.weights.Weights.{Weights}
+use Rattle.fss_utf_validation.specs.declared.Weights.{Weights}
 use Rattle.fss_utf_validation.specs.Validation.{isTrailingByte, asksTrailing, noByte, noSecond, illFormed, illFormedAt, Validated, added, addedAt, value2, value3, value4, LeadWeights, Weighs, Weighed, Whole, Padded}
 use Rattle.fss_utf_validation.proofs.Validating.{zeros-add}
 

@@ -11,7 +11,7 @@ use Rattle.forms.specs.Form.{Form, encode}
 use Rattle.forms.specs.Forms.{fssUtf}
 use Rattle.laws.proofs.Runs.{Counted, sum}
 use Rattle.laws.proofs.Blocks.{Each}
-use Rattle.fss_utf_validation.specs.declared.weights.Weights.{Weights}
+use Rattle.fss_utf_validation.specs.declared.Weights.{Weights}
 
 abbrev pub isTrailingByte : ℕ → Bool
 isTrailingByte b = leb 0x80 b && ltb b 0xC0

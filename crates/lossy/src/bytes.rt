@@ -1,5 +1,5 @@
 // FSS-UTF and UTF-EBCDIC.
-use lossy_runs::steps::Read;
+use lossy_runs::Read;
 use tables::ByteForm;
 use types::Counts;
 use types::Decoding;
@@ -21,7 +21,7 @@ fn read_on(
     ensures { λ r. ⌜ ReadOn (byteForm form) (now (text .entry)) at (r .at) (now (values .entry)) (now (starts .entry)) items (r .items) (now (values .exit)) (now (starts .exit)) ⌝ }
 {
     match form {
-        ByteForm::FssUtf => lossy_runs::fss_utf::read_on(text, at, values, starts, items),
+        ByteForm::FssUtf => fss_utf_lossy_runs::read_on(text, at, values, starts, items),
         ByteForm::UtfEbcdic => Read { at, items },
     }
 }

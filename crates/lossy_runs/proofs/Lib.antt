@@ -1,2 +1,2 @@
-pub mod Units
 pub mod ReadingOn
+pub mod Units

@@ -17,7 +17,7 @@ fn count_run(form: ByteForm, target: Target, src: &[u8], at: usize) -> Run
     ensures { λ r. ⌜ Counted (byteForm form) (targetForm target) (now (src .entry)) at (r .length) (r .units) ⌝ }
 {
     match form {
-        ByteForm::FssUtf => fss_utf_validation::count::count(target, src, at),
+        ByteForm::FssUtf => fss_utf_count::count(target, src, at),
         ByteForm::UtfEbcdic => utf_ebcdic_count::count::count(target, src, at),
     }
 }

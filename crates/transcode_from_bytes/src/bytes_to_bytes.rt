@@ -29,7 +29,7 @@ fn write_utf_ebcdic_run(to: ByteForm, src: &[u8], at: usize, dst: &mut [u8], wri
     ensures { λ r. ⌜ Wrote utfEbcdic (byteForm to) (now (src .entry)) at (r .length) (r .units) (now (dst .entry)) written (now (dst .exit)) ⌝ }
 {
     match to {
-        ByteForm::FssUtf => utf_ebcdic_runs::to_fss_utf::write(src, at, dst, written),
+        ByteForm::FssUtf => utf_ebcdic_runs_to_fss_utf::write(src, at, dst, written),
         ByteForm::UtfEbcdic => Run {
             length: 0,
             units: 0,

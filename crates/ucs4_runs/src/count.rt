@@ -44,7 +44,7 @@ fn byte_block(form: ByteForm, src: &[u32], at: usize, count: usize) -> usize
     requires { ⌜ (count ≤ 32) × (at + count ≤ length (now src)) ⌝ }
     ensures { λ r. ⌜ ((r ≡ 0 → ⊥) → Counted ucs4 (byteForm form) (now (src .entry)) at count r) ⌝ }
 {
-    let most = block_encoder::values::joined(src, at, count);
+    let most = value_bounds::joined(src, at, count);
     let two = tables::lowest(form, 1);
     if most < two {
         return count;
@@ -100,7 +100,7 @@ fn utf16_units(src: &[u32], at: usize, count: usize) -> usize
     requires { ⌜ (count ≤ 32) × (at + count ≤ length (now src)) ⌝ }
     ensures { λ r. ⌜ ((r ≡ 0 → ⊥) → Counted ucs4 utf16 (now (src .entry)) at count r) ⌝ }
 {
-    if block_encoder::values::joined(src, at, count) < 0xD800 {
+    if value_bounds::joined(src, at, count) < 0xD800 {
         return count;
     }
     utf16_block(src, at, count)

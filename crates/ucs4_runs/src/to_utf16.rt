@@ -11,7 +11,7 @@ pub fn write(src: &[u32], at: usize, dst: &mut [u16], written: usize) -> Run
     ensures { λ r. ⌜ Wrote ucs4 utf16 (now (src .entry)) at (r .length) (r .units) (now (dst .entry)) written (now (dst .exit)) ⌝ }
 {
     let length = src.len() - at;
-    let end = block_encoder::utf16::write_all(src, at, length, dst, written);
+    let end = utf16_block_encoder::write_all(src, at, length, dst, written);
     Run {
         length: length,
         units: end - written,

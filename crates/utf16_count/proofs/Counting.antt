@@ -22,8 +22,8 @@ use Rattle.encoder.specs.declared.Target.the-variants.{FssUtf, UtfEbcdic, Utf16
 use Rattle.encoder.specs.Target.{targetForm}
 use Rattle.encoder.proofs.Targets.{encode-seven}
 use Rattle.encoder.proofs.WholeUnits.{ucs4-encoding}
-use Rattle.block_encoder.proofs.FssUtf.{one-byte, two-bytes, three-bytes, four-bytes}
-use Rattle.block_encoder.proofs.UtfEbcdic as ebcdic
+use Rattle.fss_utf_encoder.proofs.FssUtf.{one-byte, two-bytes, three-bytes, four-bytes}
+use Rattle.utf_ebcdic_encoder.proofs.UtfEbcdic as ebcdic
 use Rattle.utf16_blocks.specs.Units.{isHigh, isLow, isSurrogate, number, Whole, bytesAt, ebcdicAt, valuesAt, plainOf}
 use Rattle.utf16_blocks.proofs.Tests.{high-bounds, low-bounds, high-false, low-false, low-not-high, below-not-high, below-not-low, differ}
 use Rattle.utf16_blocks.proofs.Pairs.{alone, paired-at, pairValue}

@@ -19,21 +19,21 @@ fn each(src: &[u16], at: usize, count: usize, dst: &mut [u8], written: usize) ->
     while length < count {
         let unit = src[at + length];
         if unit < 0x80 {
-            end = block_encoder::fss_utf::one(utf16_blocks::decode::wide(unit), dst, end);
+            end = fss_utf_encoder::one(utf16_blocks::decode::wide(unit), dst, end);
             length += 1;
             continue;
         }
         if unit < 0x800 {
-            end = block_encoder::fss_utf::two(utf16_blocks::decode::wide(unit), dst, end);
+            end = fss_utf_encoder::two(utf16_blocks::decode::wide(unit), dst, end);
             length += 1;
             continue;
         }
         if !utf16_blocks::blocks::surrogate(unit) {
-            end = block_encoder::fss_utf::three(utf16_blocks::decode::wide(unit), dst, end);
+            end = fss_utf_encoder::three(utf16_blocks::decode::wide(unit), dst, end);
             length += 1;
             continue;
         }
-        end = block_encoder::fss_utf::four(utf16_blocks::decode::pair(src, at + length), dst, end);
+        end = fss_utf_encoder::four(utf16_blocks::decode::pair(src, at + length), dst, end);
         length += 2;
     }
     Run {
@@ -73,10 +73,10 @@ fn twos(src: &[u16], at: usize, count: usize, dst: &mut [u8], written: usize) ->
     let mut end = written;
     let mut k: usize = 0;
     while k < last {
-        end = block_encoder::fss_utf::overrun(utf16_blocks::decode::wide(src[at + k]), dst, end);
+        end = fss_utf_block_encoder::overrun(utf16_blocks::decode::wide(src[at + k]), dst, end);
         k += 1;
     }
-    block_encoder::fss_utf::write(utf16_blocks::decode::wide(src[at + last]), dst, end)
+    fss_utf_encoder::write(utf16_blocks::decode::wide(src[at + last]), dst, end)
 }
 
 fn block(src: &[u16], at: usize, count: usize, dst: &mut [u8], written: usize) -> Run
@@ -103,7 +103,7 @@ fn block(src: &[u16], at: usize, count: usize, dst: &mut [u8], written: usize) -
     }
     let mut values = [0u32; 128];
     utf16_blocks::decode::widen(src, at, count, &mut values, 0);
-    let end = block_encoder::fss_utf::write_all(&values, 0, count, dst, written);
+    let end = fss_utf_block_encoder::write_all(&values, 0, count, dst, written);
     Run {
         length: count,
         units: end - written,

@@ -60,7 +60,7 @@ fn few(table: &[u8; 256], target: Target, src: &[u8], at: usize) -> Run
             units += 1;
             continue;
         }
-        let short = characters::utf_ebcdic::short_at(table, src, at + length);
+        let short = utf_ebcdic_characters::short_at(table, src, at + length);
         let taken = short.length;
         if taken == 0 {
             return Run { length, units };

@@ -24,7 +24,7 @@ pub fn write(src: &[u8], at: usize, dst: &mut [u8], written: usize) -> Run
     while length < room {
         let lead = src[at + length];
         if lead < 0x80 {
-            let end = block_encoder::utf_ebcdic::write(&table, wide(lead), dst, written + units);
+            let end = utf_ebcdic_encoder::write(&table, wide(lead), dst, written + units);
             length += 1;
             units = end - written;
             continue;
@@ -34,7 +34,7 @@ pub fn write(src: &[u8], at: usize, dst: &mut [u8], written: usize) -> Run
         if taken == 0 {
             return Run { length, units };
         }
-        let end = block_encoder::utf_ebcdic::write(&table, short.value, dst, written + units);
+        let end = utf_ebcdic_encoder::write(&table, short.value, dst, written + units);
         length += taken;
         units = end - written;
     }

@@ -15,7 +15,7 @@ pub fn write(src: &[u32], at: usize, dst: &mut [u8], written: usize) -> Run
     let mut units: usize = 0;
     while length < room {
         let value = src[at + length];
-        let end = block_encoder::utf_ebcdic::write(&table, value, dst, written + units);
+        let end = utf_ebcdic_encoder::write(&table, value, dst, written + units);
         length += 1;
         units = end - written;
     }

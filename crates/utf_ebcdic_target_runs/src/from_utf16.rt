@@ -14,12 +14,12 @@ pub fn write(src: &[u16], at: usize, dst: &mut [u8], written: usize) -> Run
     let mut length: usize = 0;
     let mut units: usize = 0;
     while length < room {
-        let short = characters::utf16::short_at(src, at + length);
+        let short = utf16_characters::short_at(src, at + length);
         let taken = short.length;
         if taken == 0 {
             return Run { length, units };
         }
-        let end = block_encoder::utf_ebcdic::write(&table, short.value, dst, written + units);
+        let end = utf_ebcdic_encoder::write(&table, short.value, dst, written + units);
         length += taken;
         units = end - written;
     }

@@ -5,7 +5,7 @@ use lib.ListN.{getD}
 use Rattle.encoder.proofs.WholeUnits.{ucs4-encoding}
 use Rattle.laws.proofs.Blocks.{AtMost, at-most-none, at-most-or, Held, held-none, held-more, Copied, copied-none, copied-more}
 use Rattle.laws.proofs.Runs.{wrote-none, wrote-block}
-use Rattle.fss_utf_validation.proofs.Counting.{ascii-run}
+use Rattle.fss_utf_ascii.proofs.Counting.{ascii-run}
 use borrow.Author.Needs.{needs}
 use native.Mathlib.Omega.{arith}
 use Rattle.fss_utf_runs_to_ucs4.proofs.copy16.Statement.{statement}

@@ -5,7 +5,7 @@ use denote.Ref.{now}
 use Rattle.forms.specs.Forms.{fssUtf, utf16}
 use Rattle.encoder.proofs.WholeUnits.{below-surrogates}
 use Rattle.laws.proofs.Runs.{CopyingRun, copying-run-begin, copying-run-more, copying-run-idle}
-use Rattle.fss_utf_validation.proofs.Counting.{ascii-more}
+use Rattle.fss_utf_ascii.proofs.Counting.{ascii-more}
 use borrow.Author.Needs.{needs}
 use native.Mathlib.Omega.{arith}
 use Rattle.fss_utf_runs_to_utf16.proofs.ascii.Statement.{statement}

@@ -9,7 +9,7 @@ use Rattle.forms.specs.Buffer.{withUnits}
 use Rattle.forms.specs.Forms.{fssUtf}
 use Rattle.laws.proofs.Values.{Encoded, encoded-none, encoded-length}
 use Rattle.laws.proofs.Spare.{Overrun, overrun-none, overrun-last-room, overrun-last}
-use Rattle.block_encoder.proofs.Twos.{twos-below, twos-room, twos-more}
+use Rattle.fss_utf_block_encoder.proofs.Overruns.{twos-below, twos-room, twos-more}
 use borrow.Author.Needs.{needs}
 use Rattle.utf16_runs_to_bytes.proofs.fss_utf.twos.Statement.{statement}
 use Rattle.utf16_runs_to_bytes.proofs.fss_utf.twos.Tie as tie

@@ -6,7 +6,7 @@ use Rattle.forms.specs.Forms.{fssUtf, utfEbcdic}
 use Rattle.laws.proofs.Progress.{CharacterAt, character-small, character-onward}
 use Rattle.laws.proofs.FourForms.{fssUtf-laws}
 use Rattle.laws.proofs.Runs.{WritingRun, writing-run-begin, writing-run-stands, writing-run-held, writing-run-more}
-use Rattle.fss_utf_validation.proofs.Counting.{ascii-at}
+use Rattle.fss_utf_ascii.proofs.Counting.{ascii-at}
 use borrow.Author.Needs.{needs}
 use native.Mathlib.Omega.{arith}
 use Rattle.utf_ebcdic_target_runs.proofs.from_fss_utf.write.Statement.{statement}

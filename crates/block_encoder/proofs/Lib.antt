@@ -1,3 +1,0 @@
-pub mod UtfEbcdic
-pub mod FssUtf
-pub mod Twos
