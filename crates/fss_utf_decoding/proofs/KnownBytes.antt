@@ -17,7 +17,6 @@ use Rattle.laws.proofs.Progress.{CharacterAt}
 use Rattle.laws.proofs.ReadUnits.{Known, known, behind-one, behind-two, behind-three}
 use Rattle.laws.proofs.Runs.{Stands}
 use Rattle.tables.proofs.ByteLayouts.{not-excluded}
-use Rattle.fss_utf_decoding.specs.ShortBlock.{Trailing}
 use Rattle.tables.specs.declared.ByteForm.the-variants.{FssUtf}
 
 -- a character of so many bytes, of this value, and its last byte inside
@@ -68,7 +67,7 @@ module _ (s : List ℕ) (p : ℕ) (c : Stands fssUtf s p) where
       record { inside = k .inside; here = rw e at (k .here) }
 
   -- its second byte is a trailing byte
-  pub trails : 0x80 ≤ getD s p 0 → getD s p 0 < 0xE0 → Trailing (getD s (p + 1) 0)
+  pub trails : 0x80 ≤ getD s p 0 → getD s p 0 < 0xE0 → (0x80 ≤ getD s (p + 1) 0) × (getD s (p + 1) 0 < 0xC0)
   trails h l =
       let k = of 1 (omega arith) (begins h) (omega arith) in
       let d = rw (ap (take 1) (behind-one s p (k .inside))) at (k .digits) in

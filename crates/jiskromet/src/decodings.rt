@@ -1,7 +1,7 @@
 // The lossy decodings.
 use c_answers::JkDecoding;
 ghost use Rattle.forms.specs.Forms.{fssUtf, utfEbcdic, utf16, ucs4};
-ghost use Rattle.jiskromet.specs.Promises.{DecodesLossyInC};
+ghost use Rattle.c_answers.specs.Promises.{DecodesLossyInC};
 
 #[no_mangle]
 pub extern "C" fn jk_fss_utf_decode_lossy(

@@ -30,5 +30,6 @@ pub mod ReadUnits
 pub mod Blocks
 pub mod Values
 pub mod Moved
+pub mod Measuring
 pub mod Writing
 pub mod Spare

@@ -2,10 +2,6 @@
 //
 // A text's items go into two lent buffers: the value of each (FFFFFFFF for a mark) and its start. `specs/Lossy` of `forms` says what each
 // call gives, and `specs/Demand3` of `demand3` what its caller has for every text of characters, any code units, and characters.
-mod bytes;
-mod ucs4;
-mod utf16;
-
 use tables::ByteForm;
 use types::Decoding;
 ghost use Rattle.forms.specs.Forms.{fssUtf, utfEbcdic, utf16, ucs4};
@@ -14,23 +10,23 @@ ghost use Rattle.demand3.specs.Demand3.{DecodesLossy};
 pub fn fss_utf_decode_lossy(text: &[u8], values: &mut [u32], starts: &mut [u32]) -> Decoding
     ensures { λ r. ⌜ DecodesLossy fssUtf (now (text .entry)) (now (values .entry)) (now (starts .entry)) r (now (values .exit)) (now (starts .exit)) ⌝ }
 {
-    bytes::decode_lossy(ByteForm::FssUtf, text, values, starts)
+    lossy_from_bytes::decode_lossy(ByteForm::FssUtf, text, values, starts)
 }
 
 pub fn utf_ebcdic_decode_lossy(text: &[u8], values: &mut [u32], starts: &mut [u32]) -> Decoding
     ensures { λ r. ⌜ DecodesLossy utfEbcdic (now (text .entry)) (now (values .entry)) (now (starts .entry)) r (now (values .exit)) (now (starts .exit)) ⌝ }
 {
-    bytes::decode_lossy(ByteForm::UtfEbcdic, text, values, starts)
+    lossy_from_bytes::decode_lossy(ByteForm::UtfEbcdic, text, values, starts)
 }
 
 pub fn utf16_decode_lossy(text: &[u16], values: &mut [u32], starts: &mut [u32]) -> Decoding
     ensures { λ r. ⌜ DecodesLossy utf16 (now (text .entry)) (now (values .entry)) (now (starts .entry)) r (now (values .exit)) (now (starts .exit)) ⌝ }
 {
-    utf16::decode_lossy(text, values, starts)
+    lossy_from_utf16::decode_lossy(text, values, starts)
 }
 
 pub fn ucs4_decode_lossy(text: &[u32], values: &mut [u32], starts: &mut [u32]) -> Decoding
     ensures { λ r. ⌜ DecodesLossy ucs4 (now (text .entry)) (now (values .entry)) (now (starts .entry)) r (now (values .exit)) (now (starts .exit)) ⌝ }
 {
-    ucs4::decode_lossy(text, values, starts)
+    lossy_from_ucs4::decode_lossy(text, values, starts)
 }

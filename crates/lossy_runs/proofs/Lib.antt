@@ -1,2 +1,3 @@
 pub mod ReadingOn
 pub mod Units
+pub mod Filling

@@ -1,2 +1,1 @@
 pub mod ByteForms
-pub mod Tables

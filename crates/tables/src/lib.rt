@@ -1,7 +1,5 @@
-// The constant tables of the byte forms: here roles, lead bases and lowest values for both layouts, in `ebcdic` the exchange. Each
-// function's contract says by the rules what its table holds; `specs/ByteForms` has the two forms by one parameter.
-pub mod ebcdic;
-
+// The constant tables of the byte forms: roles, lead bases and lowest values for both layouts; `ebcdic_exchange` has the exchange. Each function's
+// contract says by the rules what its table holds; `specs/ByteForms` has the two forms by one parameter.
 ghost use mathlib.Core.Path.{_≡_};
 ghost use Prim.Native.Nat.{_<_, _≤_};
 ghost use lib.ListN.{length};
@@ -37,7 +35,7 @@ pub fn plain(form: ByteForm, byte: u8) -> u8
 {
     match form {
         ByteForm::FssUtf => byte,
-        ByteForm::UtfEbcdic => ebcdic::exchange(byte),
+        ByteForm::UtfEbcdic => ebcdic_exchange::exchange(byte),
     }
 }
 
@@ -47,7 +45,7 @@ pub fn unit(form: ByteForm, plain: u8) -> u8
 {
     match form {
         ByteForm::FssUtf => plain,
-        ByteForm::UtfEbcdic => ebcdic::inverse(plain),
+        ByteForm::UtfEbcdic => ebcdic_exchange::inverse(plain),
     }
 }
 
@@ -79,7 +77,7 @@ fn role_fss_utf(byte: u8) -> u8
 fn role_utf_ebcdic(byte: u8) -> u8
     ensures { λ r. ⌜ r ≡ roleNumber (byteForm ByteForm.UtfEbcdic .role byte) ⌝ }
 {
-    let f = ebcdic::flag(byte);
+    let f = ebcdic_exchange::flag(byte);
     if f == 0 {
         return 1;
     }

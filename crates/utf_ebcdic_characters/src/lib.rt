@@ -6,7 +6,7 @@ ghost use Prim.Native.Nat.{_<_};
 ghost use lib.ListN.{length, getD};
 ghost use Rattle.forms.specs.Exchange.{i8Of};
 ghost use Rattle.forms.specs.Forms.{utfEbcdic};
-ghost use Rattle.tables.specs.Tables.{Tabulates};
+ghost use Rattle.ebcdic_exchange.specs.Tables.{Tabulates};
 ghost use Rattle.characters.specs.Short.{ShortAt};
 ghost use Rattle.characters.specs.ByteCharacter.{LeadOf, FreeBitsOf};
 
@@ -21,7 +21,7 @@ fn free_bits(table: &[u8; 256], byte: u8) -> u32
     requires { ⌜ Tabulates i8Of (now table) ⌝ }
     ensures { λ r. ⌜ FreeBitsOf ByteForm.UtfEbcdic byte r ⌝ }
 {
-    wide(std::num::wrapping_sub_u8(tables::ebcdic::exchanged(table, byte), 0xA0))
+    wide(std::num::wrapping_sub_u8(ebcdic_exchange::exchanged(table, byte), 0xA0))
 }
 
 // The lead is given as its I8 byte.
@@ -96,7 +96,7 @@ pub fn short_at(table: &[u8; 256], text: &[u8], at: usize) -> Short
     requires { ⌜ Tabulates i8Of (now table) × (at < length (now text)) ⌝ }
     ensures { λ r. ⌜ ShortAt utfEbcdic (now (text .entry)) at (r .value) (r .length) ⌝ }
 {
-    let lead = tables::ebcdic::exchanged(table, text[at]);
+    let lead = ebcdic_exchange::exchanged(table, text[at]);
     if lead < 0xA0 {
         return Short {
             value: wide(lead),

@@ -4,7 +4,7 @@ ghost use mathlib.Core.Path.{_≡_};
 ghost use Rattle.forms.specs.Exchange.{i8Of};
 ghost use Rattle.forms.specs.Forms.{utfEbcdic};
 ghost use Rattle.laws.proofs.Runs.{Stands};
-ghost use Rattle.tables.specs.Tables.{Tabulates};
+ghost use Rattle.ebcdic_exchange.specs.Tables.{Tabulates};
 ghost use Rattle.characters.specs.Short.{ShortAt};
 
 pub fn wide(byte: u8) -> u32
@@ -18,21 +18,21 @@ pub fn known_at(table: &[u8; 256], src: &[u8], at: usize) -> Short
     requires { ⌜ Tabulates i8Of (now table) × Stands utfEbcdic (now src) at ⌝ }
     ensures { λ r. ⌜ ShortAt utfEbcdic (now (src .entry)) at (r .value) (r .length) ⌝ }
 {
-    let lead = tables::ebcdic::exchanged(table, src[at]);
+    let lead = ebcdic_exchange::exchanged(table, src[at]);
     if lead < 0xA0 {
         return Short {
             value: wide(lead),
             length: 1,
         };
     }
-    let a = wide(tables::ebcdic::exchanged(table, src[at + 1])) % 32;
+    let a = wide(ebcdic_exchange::exchanged(table, src[at + 1])) % 32;
     if lead < 0xE0 {
         return Short {
             value: wide(lead - 0xC0) * 32 + a,
             length: 2,
         };
     }
-    let b = wide(tables::ebcdic::exchanged(table, src[at + 2])) % 32;
+    let b = wide(ebcdic_exchange::exchanged(table, src[at + 2])) % 32;
     if lead < 0xF0 {
         return Short {
             value: (wide(lead - 0xE0) * 32 + a) * 32 + b,
@@ -45,7 +45,7 @@ pub fn known_at(table: &[u8; 256], src: &[u8], at: usize) -> Short
             length: 0,
         };
     }
-    let c = wide(tables::ebcdic::exchanged(table, src[at + 3])) % 32;
+    let c = wide(ebcdic_exchange::exchanged(table, src[at + 3])) % 32;
     Short {
         value: ((wide(lead - 0xF0) * 32 + a) * 32 + b) * 32 + c,
         length: 4,

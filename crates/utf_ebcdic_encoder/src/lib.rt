@@ -8,14 +8,14 @@ ghost use Rattle.forms.specs.Form.{encode};
 ghost use Rattle.forms.specs.Exchange.{ebcdicOf};
 ghost use Rattle.forms.specs.Forms.{utfEbcdic};
 ghost use Rattle.forms.specs.Buffer.{withUnits};
-ghost use Rattle.tables.specs.Tables.{Tabulates};
+ghost use Rattle.ebcdic_exchange.specs.Tables.{Tabulates};
 
 // The UTF-EBCDIC byte of the I8 byte.
 fn unit(table: &[u8; 256], byte: u32) -> u8
     requires { ⌜ Tabulates ebcdicOf (now table) × (byte < 256) ⌝ }
     ensures { λ r. ⌜ r ≡ ebcdicOf byte ⌝ }
 {
-    tables::ebcdic::restored(table, byte as u8)
+    ebcdic_exchange::restored(table, byte as u8)
 }
 
 // What `encoder::bytes::write` does for UTF-EBCDIC.

@@ -7,7 +7,7 @@ ghost use lib.ListN.{length};
 ghost use Rattle.forms.specs.Exchange.{i8Of};
 ghost use Rattle.forms.specs.Forms.{fssUtf, utfEbcdic};
 ghost use Rattle.laws.proofs.Runs.{Convertible, Wrote, CopyingRun};
-ghost use Rattle.tables.specs.Tables.{Tabulates};
+ghost use Rattle.ebcdic_exchange.specs.Tables.{Tabulates};
 
 // A block of 8 bytes, if all of them stand for ASCII: exchanged into an array, which stays in registers, and tested there.
 fn copy8(table: &[u8; 256], src: &[u8], at: usize, dst: &mut [u8], written: usize) -> usize
@@ -18,7 +18,7 @@ fn copy8(table: &[u8; 256], src: &[u8], at: usize, dst: &mut [u8], written: usiz
     let mut joined: u8 = 0;
     let mut i: usize = 0;
     while i < 8 {
-        let unit = tables::ebcdic::exchanged(table, src[at + i]);
+        let unit = ebcdic_exchange::exchanged(table, src[at + i]);
         block[i] = unit;
         joined = joined | unit;
         i += 1;
@@ -58,11 +58,11 @@ fn few(table: &[u8; 256], src: &[u8], at: usize, dst: &mut [u8], written: usize)
     requires { ⌜ Tabulates i8Of (now table) × (at ≤ length (now src)) × Convertible utfEbcdic fssUtf (now src) at written (length (now dst)) ⌝ }
     ensures { λ r. ⌜ Wrote utfEbcdic fssUtf (now (src .entry)) at (r .length) (r .units) (now (dst .entry)) written (now (dst .exit)) ⌝ }
 {
-    let room = utf_ebcdic_count::count::bounded(src.len() - at);
+    let room = utf_ebcdic_count::bounded(src.len() - at);
     let mut length: usize = 0;
     let mut units: usize = 0;
     while length < room {
-        let lead = tables::ebcdic::exchanged(table, src[at + length]);
+        let lead = ebcdic_exchange::exchanged(table, src[at + length]);
         if lead < 0x80 {
             let end = fss_utf_encoder::write(utf_ebcdic_decoding::wide(lead), dst, written + units);
             length += 1;
@@ -85,7 +85,7 @@ pub fn write(src: &[u8], at: usize, dst: &mut [u8], written: usize) -> Run
     requires { ⌜ (at ≤ length (now src)) × Convertible utfEbcdic fssUtf (now src) at written (length (now dst)) ⌝ }
     ensures { λ r. ⌜ Wrote utfEbcdic fssUtf (now (src .entry)) at (r .length) (r .units) (now (dst .entry)) written (now (dst .exit)) ⌝ }
 {
-    let table = tables::ebcdic::exchange_table();
+    let table = ebcdic_exchange::exchange_table();
     let copied = ascii(&table, src, at, dst, written);
     if copied != 0 {
         return Run {

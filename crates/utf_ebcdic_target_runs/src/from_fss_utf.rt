@@ -17,7 +17,7 @@ pub fn write(src: &[u8], at: usize, dst: &mut [u8], written: usize) -> Run
     requires { ⌜ (at ≤ length (now src)) × Convertible fssUtf utfEbcdic (now src) at written (length (now dst)) ⌝ }
     ensures { λ r. ⌜ Wrote fssUtf utfEbcdic (now (src .entry)) at (r .length) (r .units) (now (dst .entry)) written (now (dst .exit)) ⌝ }
 {
-    let table = tables::ebcdic::inverse_table();
+    let table = ebcdic_exchange::inverse_table();
     let room = src.len() - at;
     let mut length: usize = 0;
     let mut units: usize = 0;
@@ -29,7 +29,7 @@ pub fn write(src: &[u8], at: usize, dst: &mut [u8], written: usize) -> Run
             units = end - written;
             continue;
         }
-        let short = fss_utf_decoding::known::known_at(src, at + length);
+        let short = fss_utf_decoding::known_at(src, at + length);
         let taken = short.length;
         if taken == 0 {
             return Run { length, units };

@@ -9,7 +9,7 @@ pub fn write(src: &[u16], at: usize, dst: &mut [u8], written: usize) -> Run
     requires { ⌜ (at ≤ length (now src)) × Convertible utf16 utfEbcdic (now src) at written (length (now dst)) ⌝ }
     ensures { λ r. ⌜ Wrote utf16 utfEbcdic (now (src .entry)) at (r .length) (r .units) (now (dst .entry)) written (now (dst .exit)) ⌝ }
 {
-    let table = tables::ebcdic::inverse_table();
+    let table = ebcdic_exchange::inverse_table();
     let room = src.len() - at;
     let mut length: usize = 0;
     let mut units: usize = 0;

@@ -4,7 +4,7 @@ use mathlib.Core.List.{[], _∷_}
 use Rattle.forms.specs.Form.{encode}
 use Rattle.forms.specs.Forms.{utf16}
 use Rattle.encoder.proofs.WholeUnits.{below-surrogates}
-use Rattle.fss_utf_decoding.proofs.ShortRuns.{ShortRun, short-run-begin, short-run-room, short-run-more, short-run-end}
+use Rattle.fss_utf_short_blocks.proofs.ShortRuns.{ShortRun, short-run-begin, short-run-room, short-run-more, short-run-end}
 use borrow.Author.Needs.{needs}
 use native.Mathlib.Omega.{arith}
 use Rattle.fss_utf_runs_to_utf16.proofs.short64.Statement.{statement}

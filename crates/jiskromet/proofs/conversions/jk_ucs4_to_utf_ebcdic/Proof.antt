@@ -1,5 +1,5 @@
 use borrow.Author.Needs.{needs}
-use Rattle.jiskromet.proofs.Promises.{converts-in-c}
+use Rattle.c_answers.proofs.Promises.{converts-in-c}
 use Rattle.jiskromet.proofs.conversions.jk_ucs4_to_utf_ebcdic.Statement.{statement}
 use Rattle.jiskromet.proofs.conversions.jk_ucs4_to_utf_ebcdic.Tie as tie
 

@@ -3,7 +3,7 @@ use native.Mathlib.Omega.{arith}
 use lib.ListN.{length}
 use denote.Ref.{now}
 use Rattle.laws.proofs.Values.{wrote-encoded}
-use Rattle.ucs4_runs.proofs.Units.{units-run, units-encodable, units-room}
+use Rattle.ucs4_count.proofs.Units.{units-run, units-encodable, units-room}
 use borrow.Author.Needs.{needs}
 use Rattle.ucs4_runs.proofs.to_utf16.write.Statement.{statement}
 use Rattle.ucs4_runs.proofs.to_utf16.write.Tie as tie

@@ -1,0 +1,38 @@
+// The measure of a UCS-4 text: how many code units it has in another form, or the refusal. `conversion_length` has a public call for each pair of
+// forms. The rules are `specs/Conversion` of `forms`, and what the loop keeps is `Measuring` of `laws`.
+use encoder::Target;
+use types::Conversion;
+use types::Item;
+ghost use Rattle.forms.specs.Forms.{ucs4};
+ghost use Rattle.forms.specs.Conversion.{Measures};
+ghost use Rattle.encoder.specs.Target.{targetForm};
+
+pub fn measure(target: Target, src: &[u32]) -> Conversion
+    ensures { λ r. ⌜ Measures ucs4 (targetForm target) (now (src .entry)) r ⌝ }
+{
+    if 65536 < src.len() {
+        return Conversion::Refused(answers::source_too_long());
+    }
+    let mut at: usize = 0;
+    let mut units: usize = 0;
+    while at < src.len() {
+        let run = ucs4_count::count(target, src, at);
+        let passed = run.length;
+        if passed != 0 {
+            at += passed;
+            units += run.units;
+            continue;
+        }
+        let item = items::ucs4::item_at(src, at);
+        let Item::Character(value, span) = item else {
+            return Conversion::Refused(answers::refusal(item));
+        };
+        let length = encoder::encoded_length(target, value);
+        if length == 0 {
+            return Conversion::Refused(answers::refusal(item));
+        }
+        units += length;
+        at += span.length;
+    }
+    Conversion::Units(units)
+}
