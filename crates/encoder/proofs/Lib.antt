@@ -1,4 +1,1 @@
-pub mod WholeUnits
-pub mod Lengths
-pub mod Backward
 pub mod Targets

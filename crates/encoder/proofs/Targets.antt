@@ -12,7 +12,7 @@ use Rattle.laws.proofs.Progress.{CharacterAt}
 use Rattle.laws.proofs.Runs.{Counted, counted-one, counted-join}
 use Rattle.tables.specs.declared.ByteForm.the-variants as form
 use Rattle.tables.proofs.ByteLayouts.{encode-length}
-use Rattle.encoder.proofs.WholeUnits.{ucs4-encoding, below-surrogates}
+use Rattle.laws.proofs.UnitEncodings.{ucs4-encoding, below-surrogates}
 use Rattle.encoder.specs.Target.{targetForm}
 use Rattle.encoder.specs.declared.Target.{Target}
 use Rattle.encoder.specs.declared.Target.the-variants.{FssUtf, UtfEbcdic, Utf16, Ucs4}

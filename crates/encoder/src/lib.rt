@@ -1,9 +1,5 @@
-// Writes the legal encoding of one value, by the width of the code units, and tells how long it is. These functions ask that the value
-// lies below 80000000 and that the room suffices: the calls of `conversion` ask nothing.
-pub mod bytes;
-pub mod ucs4;
-pub mod utf16;
-
+// How many code units a value has in a target form. `byte_encoder`, `utf16_encoder` and `ucs4_encoder` write one value, by the width of the code
+// units. These functions ask that the value lies below 80000000 and that the room suffices: the calls of `conversion` ask nothing.
 use tables::ByteForm;
 ghost use mathlib.Core.Path.{_≡_};
 ghost use Prim.Native.Nat.{_<_};
@@ -36,9 +32,9 @@ pub fn encoded_length(target: Target, value: u32) -> usize
     ensures { λ r. ⌜ r ≡ length (encode (targetForm target) value) ⌝ }
 {
     match target {
-        Target::FssUtf => bytes::encoded_length(ByteForm::FssUtf, value),
-        Target::UtfEbcdic => bytes::encoded_length(ByteForm::UtfEbcdic, value),
-        Target::Utf16 => utf16::encoded_length(value),
+        Target::FssUtf => byte_encoder::encoded_length(ByteForm::FssUtf, value),
+        Target::UtfEbcdic => byte_encoder::encoded_length(ByteForm::UtfEbcdic, value),
+        Target::Utf16 => utf16_encoder::encoded_length(value),
         Target::Ucs4 => 1,
     }
 }

@@ -1,4 +1,4 @@
-// One value in FSS-UTF, by straight code where it has at most four bytes: what `encoder` promises of it.
+// One value in FSS-UTF, by straight code where it has at most four bytes: what `byte_encoder` promises of it.
 use tables::ByteForm;
 ghost use mathlib.Core.Path.{_≡_};
 ghost use Prim.Native.Nat.{_+_, _%_, _<_, _≤_};
@@ -46,7 +46,7 @@ pub fn four(value: u32, dst: &mut [u8], at: usize) -> usize
     at + 4
 }
 
-// What `encoder::bytes::write` does for FSS-UTF.
+// What `byte_encoder::write` does for FSS-UTF.
 pub fn write(value: u32, dst: &mut [u8], at: usize) -> usize
     requires { ⌜ (value < 0x80000000) × (at + length (encode fssUtf value) ≤ length (now dst)) ⌝ }
     ensures { λ r. ⌜ (r ≡ at + length (encode fssUtf value)) × (now (dst .exit) ≡ withUnits (now (dst .entry)) at (encode fssUtf value)) ⌝ }
@@ -63,5 +63,5 @@ pub fn write(value: u32, dst: &mut [u8], at: usize) -> usize
     if value < 0x200000 {
         return four(value, dst, at);
     }
-    encoder::bytes::write(ByteForm::FssUtf, value, dst, at)
+    byte_encoder::write(ByteForm::FssUtf, value, dst, at)
 }

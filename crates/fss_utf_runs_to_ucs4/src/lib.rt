@@ -151,7 +151,7 @@ fn few(src: &[u8], at: usize, dst: &mut [u32], written: usize) -> Run
         if taken == 0 {
             return Run { length, units };
         }
-        let end = encoder::ucs4::write(short.value, dst, to);
+        let end = ucs4_encoder::write(short.value, dst, to);
         length += taken;
         units = end - written;
     }

@@ -145,7 +145,7 @@ fn few(src: &[u8], at: usize, dst: &mut [u16], written: usize) -> Run
         if taken == 0 {
             return Run { length, units };
         }
-        let end = encoder::utf16::write(short.value, dst, to);
+        let end = utf16_encoder::write(short.value, dst, to);
         length += taken;
         units = end - written;
     }

@@ -17,7 +17,7 @@ use Rattle.tables.specs.ByteForms.{layoutOf}
 use Rattle.tables.proofs.ByteLayouts.{encode-length, not-excluded}
 use Rattle.tables.specs.declared.ByteForm.the-variants.{UtfEbcdic}
 use Rattle.encoder.specs.declared.Target.the-variants.{Utf16, Ucs4}
-use Rattle.encoder.proofs.WholeUnits.{ucs4-encoding, below-surrogates, above-surrogates, pair, unit}
+use Rattle.laws.proofs.UnitEncodings.{ucs4-encoding, below-surrogates, above-surrogates, pair, unit}
 use Rattle.encoder.proofs.Targets.{encode-seven}
 use Rattle.encoder.specs.declared.Target.the-variants as target
 use Rattle.fss_utf_validation.specs.declared.Weights.{Weights}

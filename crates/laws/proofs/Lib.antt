@@ -25,6 +25,9 @@ pub mod RoundTrip
 pub mod TwelvePairs
 pub mod Distances
 pub mod Starts
+pub mod StartRefusals
+pub mod StartsOfUnits
+pub mod UnitEncodings
 pub mod Runs
 pub mod ReadUnits
 pub mod Blocks

@@ -78,7 +78,7 @@ pub fn convert(from: ByteForm, to: ByteForm, src: &[u8], dst: &mut [u8]) -> Conv
         let Item::Character(value, span) = item else {
             return Conversion::Refused(answers::refusal(item));
         };
-        written = encoder::bytes::write(to, value, dst, written);
+        written = byte_encoder::write(to, value, dst, written);
         at += span.length;
     }
     Conversion::Units(written)

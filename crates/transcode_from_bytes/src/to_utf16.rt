@@ -46,7 +46,7 @@ pub fn convert(from: ByteForm, src: &[u8], dst: &mut [u16]) -> Conversion
         let Item::Character(value, span) = item else {
             return Conversion::Refused(answers::refusal(item));
         };
-        written = encoder::utf16::write(value, dst, written);
+        written = utf16_encoder::write(value, dst, written);
         at += span.length;
     }
     Conversion::Units(written)

@@ -23,7 +23,7 @@ use Rattle.tables.specs.declared.ByteForm.the-variants.{FssUtf, UtfEbcdic}
 use Rattle.tables.proofs.ByteLayouts.{encode-length, rise}
 use Rattle.encoder.specs.declared.Target.the-variants as Target
 use Rattle.encoder.proofs.Targets.{encode-seven}
-use Rattle.encoder.proofs.WholeUnits.{below-surrogates, above-surrogates, pair}
+use Rattle.laws.proofs.UnitEncodings.{below-surrogates, above-surrogates, pair}
 use Rattle.ucs4_count.specs.Bounds.{number, reached, reachedAt, unitsAt}
 use Rattle.ucs4_count.proofs.Units.{unit-character}
 

@@ -25,7 +25,7 @@ fn each(values: &[u32], from: usize, count: usize, dst: &mut [u16], at: usize) -
     let mut end = at;
     let mut k: usize = 0;
     while k < count {
-        end = encoder::utf16::write(values[from + k], dst, end);
+        end = utf16_encoder::write(values[from + k], dst, end);
         k += 1;
     }
     end

@@ -14,7 +14,7 @@ use Rattle.laws.proofs.Progress.{CharacterAt}
 use Rattle.laws.proofs.Runs.{Run, Convertible, Wrote, convertible-run}
 use Rattle.laws.proofs.Blocks.{AtMost}
 use Rattle.laws.proofs.Values.{part, part-length, Encodable, Encoded, Room, singles-run, singles-encodable, singles-room, own-encodings, wrote-encoded}
-use Rattle.encoder.proofs.WholeUnits.{ucs4-encoding}
+use Rattle.laws.proofs.UnitEncodings.{ucs4-encoding}
 use Rattle.fss_utf_encoder.proofs.FssUtf.{one-byte}
 use Rattle.utf16_blocks.specs.Units.{isSurrogate, NoSurrogates}
 use Rattle.utf16_blocks.proofs.Tests.{surrogate-false}

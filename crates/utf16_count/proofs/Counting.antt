@@ -21,7 +21,7 @@ use Rattle.encoder.specs.declared.Target.{Target}
 use Rattle.encoder.specs.declared.Target.the-variants.{FssUtf, UtfEbcdic, Utf16, Ucs4}
 use Rattle.encoder.specs.Target.{targetForm}
 use Rattle.encoder.proofs.Targets.{encode-seven}
-use Rattle.encoder.proofs.WholeUnits.{ucs4-encoding}
+use Rattle.laws.proofs.UnitEncodings.{ucs4-encoding}
 use Rattle.fss_utf_encoder.proofs.FssUtf.{one-byte, two-bytes, three-bytes, four-bytes}
 use Rattle.utf_ebcdic_encoder.proofs.UtfEbcdic as ebcdic
 use Rattle.utf16_blocks.specs.Units.{isHigh, isLow, isSurrogate, number, Whole, bytesAt, ebcdicAt, valuesAt, plainOf}

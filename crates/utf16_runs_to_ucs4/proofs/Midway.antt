@@ -16,7 +16,7 @@ use Rattle.laws.proofs.Progress.{CharacterAt, character-onward}
 use Rattle.laws.proofs.Runs.{Run, Convertible, Stands, run-none, run-one, run-join, convertible-run, convertible-stands, convertible-character}
 use Rattle.laws.proofs.Values.{WrittenTo}
 use Rattle.laws.proofs.Spare.{Spare, spare-none, spare-over, spare-more, spare-last}
-use Rattle.encoder.proofs.WholeUnits.{ucs4-encoding}
+use Rattle.laws.proofs.UnitEncodings.{ucs4-encoding}
 use Rattle.utf16_blocks.specs.Units.{isHigh, isLow, number, LastCharacter}
 use Rattle.utf16_blocks.proofs.Tests.{differ, high-bounds, low-bounds, low-not-high}
 use Rattle.utf16_blocks.proofs.Pairs.{alone, paired-at, pair-stands, pairValue}

@@ -17,7 +17,7 @@ fn each(src: &[u16], at: usize, count: usize, dst: &mut [u32], written: usize) -
     let mut end = written;
     while length < count {
         let next = utf16_blocks::decode::decode(src, at + length);
-        end = encoder::ucs4::write(next.value, dst, end);
+        end = ucs4_encoder::write(next.value, dst, end);
         length += next.length;
     }
     Run {
@@ -76,7 +76,7 @@ fn pairs(src: &[u16], at: usize, count: usize, dst: &mut [u32], written: usize) 
         k += 1;
     }
     let next = utf16_blocks::decode::decode(src, at + last);
-    end = encoder::ucs4::write(next.value, dst, end);
+    end = ucs4_encoder::write(next.value, dst, end);
     Run {
         length: last + next.length,
         units: end - written,

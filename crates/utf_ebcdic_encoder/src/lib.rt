@@ -18,7 +18,7 @@ fn unit(table: &[u8; 256], byte: u32) -> u8
     ebcdic_exchange::restored(table, byte as u8)
 }
 
-// What `encoder::bytes::write` does for UTF-EBCDIC.
+// What `byte_encoder::write` does for UTF-EBCDIC.
 pub fn write(table: &[u8; 256], value: u32, dst: &mut [u8], at: usize) -> usize
     requires { ⌜ Tabulates ebcdicOf (now table) × (value < 0x80000000) × (at + length (encode utfEbcdic value) ≤ length (now dst)) ⌝ }
     ensures { λ r. ⌜ (r ≡ at + length (encode utfEbcdic value)) × (now (dst .exit) ≡ withUnits (now (dst .entry)) at (encode utfEbcdic value)) ⌝ }
@@ -45,5 +45,5 @@ pub fn write(table: &[u8; 256], value: u32, dst: &mut [u8], at: usize) -> usize
         dst[at + 3] = unit(table, 0xA0 + value % 32);
         return at + 4;
     }
-    encoder::bytes::write(ByteForm::UtfEbcdic, value, dst, at)
+    byte_encoder::write(ByteForm::UtfEbcdic, value, dst, at)
 }

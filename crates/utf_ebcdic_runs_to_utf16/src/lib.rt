@@ -71,7 +71,7 @@ fn few(table: &[u8; 256], src: &[u8], at: usize, dst: &mut [u16], written: usize
     while length < room {
         let lead = ebcdic_exchange::exchanged(table, src[at + length]);
         if lead < 0x80 {
-            let end = encoder::utf16::write(utf_ebcdic_decoding::wide(lead), dst, written + units);
+            let end = utf16_encoder::write(utf_ebcdic_decoding::wide(lead), dst, written + units);
             length += 1;
             units = end - written;
             continue;
@@ -81,7 +81,7 @@ fn few(table: &[u8; 256], src: &[u8], at: usize, dst: &mut [u16], written: usize
         if taken == 0 {
             return Run { length, units };
         }
-        let end = encoder::utf16::write(short.value, dst, written + units);
+        let end = utf16_encoder::write(short.value, dst, written + units);
         length += taken;
         units = end - written;
     }

@@ -1,7 +1,7 @@
 use borrow.Author.Needs.{needs}
 use mathlib.Core.Path.{ap, sym}
 use lib.ListN.{length}
-use Rattle.encoder.proofs.WholeUnits.{ucs4-encoding}
+use Rattle.laws.proofs.UnitEncodings.{ucs4-encoding}
 use Rattle.encoder.proofs.encoded_length.Statement.{statement}
 use Rattle.encoder.proofs.encoded_length.Tie as tie
 

@@ -7,7 +7,7 @@ use denote.Ref.{now}
 use Rattle.forms.specs.Form.{encode}
 use Rattle.forms.specs.Forms.{fssUtf}
 use Rattle.fss_utf_encoder.proofs.FssUtf.{four-bytes}
-use Rattle.encoder.proofs.WholeUnits.{put-four}
+use Rattle.laws.proofs.UnitEncodings.{put-four}
 use borrow.Author.Needs.{needs}
 use Rattle.fss_utf_encoder.proofs.four.Statement.{statement}
 use Rattle.fss_utf_encoder.proofs.four.Tie as tie

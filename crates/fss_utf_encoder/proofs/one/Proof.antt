@@ -7,7 +7,7 @@ use denote.Ref.{now}
 use Rattle.forms.specs.Form.{encode}
 use Rattle.forms.specs.Forms.{fssUtf}
 use Rattle.fss_utf_encoder.proofs.FssUtf.{one-byte}
-use Rattle.encoder.proofs.WholeUnits.{put-one}
+use Rattle.laws.proofs.UnitEncodings.{put-one}
 use borrow.Author.Needs.{needs}
 use Rattle.fss_utf_encoder.proofs.one.Statement.{statement}
 use Rattle.fss_utf_encoder.proofs.one.Tie as tie

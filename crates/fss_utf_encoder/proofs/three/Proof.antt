@@ -7,7 +7,7 @@ use denote.Ref.{now}
 use Rattle.forms.specs.Form.{encode}
 use Rattle.forms.specs.Forms.{fssUtf}
 use Rattle.fss_utf_encoder.proofs.FssUtf.{three-bytes}
-use Rattle.encoder.proofs.WholeUnits.{put-three}
+use Rattle.laws.proofs.UnitEncodings.{put-three}
 use borrow.Author.Needs.{needs}
 use Rattle.fss_utf_encoder.proofs.three.Statement.{statement}
 use Rattle.fss_utf_encoder.proofs.three.Tie as tie

@@ -7,7 +7,7 @@ use denote.Ref.{now}
 use Rattle.forms.specs.Form.{encode}
 use Rattle.forms.specs.Forms.{fssUtf}
 use Rattle.fss_utf_encoder.proofs.FssUtf.{two-bytes}
-use Rattle.encoder.proofs.WholeUnits.{put-two}
+use Rattle.laws.proofs.UnitEncodings.{put-two}
 use borrow.Author.Needs.{needs}
 use Rattle.fss_utf_encoder.proofs.two.Statement.{statement}
 use Rattle.fss_utf_encoder.proofs.two.Tie as tie

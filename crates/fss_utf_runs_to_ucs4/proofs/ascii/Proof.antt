@@ -3,7 +3,7 @@ use mathlib.Core.List.{List}
 use lib.ListN.{length, getD}
 use denote.Ref.{now}
 use Rattle.forms.specs.Forms.{fssUtf, ucs4}
-use Rattle.encoder.proofs.WholeUnits.{ucs4-encoding}
+use Rattle.laws.proofs.UnitEncodings.{ucs4-encoding}
 use Rattle.laws.proofs.Runs.{CopyingRun, copying-run-begin, copying-run-more, copying-run-idle}
 use Rattle.fss_utf_ascii.proofs.Counting.{ascii-more}
 use borrow.Author.Needs.{needs}

@@ -6,7 +6,7 @@ use Rattle.forms.specs.Form.{span}
 use Rattle.forms.specs.Forms.{fssUtf, ucs4}
 use Rattle.laws.proofs.Progress.{CharacterAt, character-onward, character-small}
 use Rattle.laws.proofs.Runs.{Stands, WritingRun, writing-run-begin, writing-run-stands, writing-run-held, writing-run-unit, writing-run-more}
-use Rattle.encoder.proofs.WholeUnits.{ucs4-encoding}
+use Rattle.laws.proofs.UnitEncodings.{ucs4-encoding}
 use Rattle.fss_utf_decoding.proofs.KnownBytes.{Bytes, begins, bytes-one, bytes-two, bytes-three, inside-two, inside-three}
 use Rattle.laws.proofs.FourForms.{fssUtf-laws}
 use borrow.Author.Needs.{needs}

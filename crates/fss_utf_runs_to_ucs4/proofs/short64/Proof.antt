@@ -3,7 +3,7 @@ use mathlib.Core.Path.{_≡_, refl}
 use mathlib.Core.List.{[], _∷_}
 use Rattle.forms.specs.Form.{encode}
 use Rattle.forms.specs.Forms.{ucs4}
-use Rattle.encoder.proofs.WholeUnits.{ucs4-encoding}
+use Rattle.laws.proofs.UnitEncodings.{ucs4-encoding}
 use Rattle.fss_utf_short_blocks.proofs.ShortRuns.{ShortRun, short-run-begin, short-run-room, short-run-more, short-run-end}
 use borrow.Author.Needs.{needs}
 use native.Mathlib.Omega.{arith}

@@ -2,7 +2,7 @@ use Prim.Native.Nat.{_+_, _-_, _≤_, _<_}
 use mathlib.Core.Path.{refl}
 use denote.Ref.{now}
 use lib.ListN.{getD}
-use Rattle.encoder.proofs.WholeUnits.{below-surrogates}
+use Rattle.laws.proofs.UnitEncodings.{below-surrogates}
 use Rattle.laws.proofs.Blocks.{AtMost, at-most-none, at-most-or, Held, held-none, held-more, Copied, copied-none, copied-more}
 use Rattle.laws.proofs.Runs.{wrote-none, wrote-block}
 use Rattle.fss_utf_ascii.proofs.Counting.{ascii-run}

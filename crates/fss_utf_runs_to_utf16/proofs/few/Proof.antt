@@ -6,7 +6,7 @@ use Rattle.forms.specs.Form.{span}
 use Rattle.forms.specs.Forms.{fssUtf, utf16}
 use Rattle.laws.proofs.Progress.{CharacterAt, character-onward}
 use Rattle.laws.proofs.Runs.{Stands, WritingRun, writing-run-begin, writing-run-stands, writing-run-held, writing-run-unit, writing-run-more}
-use Rattle.encoder.proofs.WholeUnits.{below-surrogates, unit}
+use Rattle.laws.proofs.UnitEncodings.{below-surrogates, unit}
 use Rattle.fss_utf_decoding.proofs.KnownBytes.{Bytes, begins, bytes-one, bytes-two, bytes-three, inside-two, inside-three}
 use borrow.Author.Needs.{needs}
 use native.Mathlib.Omega.{arith}

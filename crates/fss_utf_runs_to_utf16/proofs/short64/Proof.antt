@@ -3,7 +3,7 @@ use mathlib.Core.Path.{_≡_, refl}
 use mathlib.Core.List.{[], _∷_}
 use Rattle.forms.specs.Form.{encode}
 use Rattle.forms.specs.Forms.{utf16}
-use Rattle.encoder.proofs.WholeUnits.{below-surrogates}
+use Rattle.laws.proofs.UnitEncodings.{below-surrogates}
 use Rattle.fss_utf_short_blocks.proofs.ShortRuns.{ShortRun, short-run-begin, short-run-room, short-run-more, short-run-end}
 use borrow.Author.Needs.{needs}
 use native.Mathlib.Omega.{arith}

@@ -5,7 +5,7 @@ use lib.ListN.{getD}
 use denote.Ref.{now}
 use Rattle.forms.specs.Forms.{utf16}
 use Rattle.laws.proofs.Values.{Encoded, encoded-start, encoded-put, encoded-length}
-use Rattle.encoder.proofs.WholeUnits.{unit}
+use Rattle.laws.proofs.UnitEncodings.{unit}
 use borrow.Author.Needs.{needs}
 use Rattle.utf16_block_encoder.proofs.copy.Statement.{statement}
 use Rattle.utf16_block_encoder.proofs.copy.Tie as tie

@@ -8,7 +8,7 @@ use Rattle.forms.specs.Form.{encode}
 use Rattle.forms.specs.Exchange.{ebcdicOf}
 use Rattle.forms.specs.Forms.{utfEbcdic}
 use Rattle.utf_ebcdic_encoder.proofs.UtfEbcdic.{same-one, same-two, same-three, same-four, one-byte, two-bytes, three-bytes, four-bytes}
-use Rattle.encoder.proofs.WholeUnits.{put-one, put-two, put-three, put-four}
+use Rattle.laws.proofs.UnitEncodings.{put-one, put-two, put-three, put-four}
 use borrow.Author.Needs.{needs}
 use Rattle.utf_ebcdic_encoder.proofs.write.Statement.{statement}
 use Rattle.utf_ebcdic_encoder.proofs.write.Tie as tie

@@ -1,0 +1,46 @@
+// The legal encoding of one value in FSS-UTF or UTF-EBCDIC: its length, and the bytes written from the last to the first.
+use tables::ByteForm;
+ghost use mathlib.Core.Path.{_≡_};
+ghost use Prim.Native.Nat.{_+_, _<_, _≤_};
+ghost use lib.ListN.{length};
+ghost use Rattle.forms.specs.Form.{encode};
+ghost use Rattle.forms.specs.Buffer.{withUnits};
+ghost use Rattle.tables.specs.ByteForms.{byteForm};
+
+// The trailing bytes of the value's encoding: as many as the first length has that the value fits.
+fn trailing(form: ByteForm, value: u32) -> usize
+    requires { ⌜ value < 0x80000000 ⌝ }
+    ensures { λ r. ⌜ length (encode (byteForm form) value) ≡ r + 1 ⌝ }
+{
+    let mut count: usize = 0;
+    while tables::lowest(form, count + 1) <= value {
+        count += 1;
+    }
+    count
+}
+
+pub fn encoded_length(form: ByteForm, value: u32) -> usize
+    requires { ⌜ value < 0x80000000 ⌝ }
+    ensures { λ r. ⌜ r ≡ length (encode (byteForm form) value) ⌝ }
+{
+    trailing(form, value) + 1
+}
+
+// Writes the encoding from an offset on, its last byte first, and answers the offset behind it.
+pub fn write(form: ByteForm, value: u32, dst: &mut [u8], at: usize) -> usize
+    requires { ⌜ (value < 0x80000000) × (at + length (encode (byteForm form) value) ≤ length (now dst)) ⌝ }
+    ensures { λ r. ⌜ (r ≡ at + length (encode (byteForm form) value)) × (now (dst .exit) ≡ withUnits (now (dst .entry)) at (encode (byteForm form) value)) ⌝ }
+{
+    let count = trailing(form, value);
+    let radix = tables::radix(form);
+    let low = tables::first_trailing(form);
+    let mut left = count;
+    let mut rest = value;
+    while 0 < left {
+        dst[at + left] = tables::unit(form, low + (rest % radix) as u8);
+        rest = rest / radix;
+        left -= 1;
+    }
+    dst[at] = tables::unit(form, tables::lead_base(form, count) + rest as u8);
+    at + count + 1
+}

@@ -1,3 +1,0 @@
-pub mod Refusals
-pub mod Seeking
-pub mod WholeUnits
