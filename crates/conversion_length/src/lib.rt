@@ -1,6 +1,7 @@
 // The length of each conversion between two of the four forms, document 01's measure: public calls, which ask nothing of their caller.
 //
-// `f_to_g_length` gives how many code units the text has in the other form, or the refusal. `specs/Conversion` of `forms` says what each gives.
+// `f_to_g_length` gives how many code units the text has in the other form, or the refusal. `specs/Conversion` of `forms` says what each
+// gives.
 use encoder::Target;
 use tables::ByteForm;
 use types::Conversion;

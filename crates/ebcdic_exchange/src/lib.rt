@@ -1,5 +1,5 @@
-// The exchange between UTF-EBCDIC and I8 bytes, its inverse, and the shadow flags. Each function's contract says by the rules what its table
-// holds; `specs/Tables` says it of a table that is lent.
+// The exchange between UTF-EBCDIC and I8 bytes, its inverse, and the shadow flags. Each function's contract says by the rules what its
+// table holds; `specs/Tables` says it of a table that is lent.
 ghost use mathlib.Core.Path.{_≡_};
 ghost use Rattle.forms.specs.Exchange.{i8Of, ebcdicOf};
 ghost use Rattle.forms.specs.Flags.{flagOf};

@@ -1,5 +1,5 @@
-// How many code units a value has in a target form. `byte_encoder`, `utf16_encoder` and `ucs4_encoder` write one value, by the width of the code
-// units. These functions ask that the value lies below 80000000 and that the room suffices: the calls of `conversion` ask nothing.
+// How many code units a value has in a target form. `byte_encoder`, `utf16_encoder` and `ucs4_encoder` write one value, by the width of the
+// code units. These functions ask that the value lies below 80000000 and that the room suffices: the calls of `conversion` ask nothing.
 use tables::ByteForm;
 ghost use mathlib.Core.Path.{_≡_};
 ghost use Prim.Native.Nat.{_<_};

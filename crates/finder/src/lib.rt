@@ -1,7 +1,8 @@
 // The start finders of the four forms: public calls, which ask nothing of their caller.
 //
-// Each gives the start of the item, in the reading of the whole text, that covers the asked offset: `itemStart` in `specs/Start` of `forms`. It
-// looks at the asked code unit and at those before it that the longest item reaches, and at no others: its cost does not grow with the text.
+// Each gives the start of the item, in the reading of the whole text, that covers the asked offset: `itemStart` in `specs/Start` of
+// `forms`. It looks at the asked code unit and at those before it that the longest item reaches, and at no others: its cost does not grow
+// with the text.
 use tables::ByteForm;
 use types::Start;
 ghost use mathlib.Core.Path.{_≡_};

@@ -1,4 +1,5 @@
-// Many values in FSS-UTF, in blocks. They must have encodings, and the room must suffice: `laws/proofs/Values` says what is asked and promised.
+// Many values in FSS-UTF, in blocks. They must have encodings, and the room must suffice: `laws/proofs/Values` says what is asked and
+// promised.
 ghost use mathlib.Core.Path.{_≡_};
 ghost use Prim.Native.Nat.{_+_, _%_, _<_};
 ghost use lib.ListN.{length, getD, set};

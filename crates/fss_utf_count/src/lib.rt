@@ -1,9 +1,9 @@
-// How many code units of the target the FSS-UTF characters from an offset on become, in blocks: what makes the measure of a strict conversion
-// from FSS-UTF fast. What is not taken here is left to the item reader; `Counted` in `Runs` of `laws` is the promise.
+// How many code units of the target the FSS-UTF characters from an offset on become, in blocks: what makes the measure of a strict
+// conversion from FSS-UTF fast. What is not taken here is left to the item reader; `Counted` in `Runs` of `laws` is the promise.
 use encoder::Target;
 use fss_utf_validation::Weights;
 use types::Run;
-ghost use Prim.Native.Nat.{_+_, _-_, _<_, _≤_};
+ghost use Prim.Native.Nat.{_+_, _<_, _≤_};
 ghost use lib.ListN.{length};
 ghost use Rattle.forms.specs.Forms.{fssUtf};
 ghost use Rattle.laws.proofs.Runs.{Counted};

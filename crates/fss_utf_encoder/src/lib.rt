@@ -1,7 +1,7 @@
 // One value in FSS-UTF, by straight code where it has at most four bytes: what `byte_encoder` promises of it.
 use tables::ByteForm;
 ghost use mathlib.Core.Path.{_≡_};
-ghost use Prim.Native.Nat.{_+_, _%_, _<_, _≤_};
+ghost use Prim.Native.Nat.{_+_, _<_, _≤_};
 ghost use lib.ListN.{length};
 ghost use Rattle.forms.specs.Form.{encode};
 ghost use Rattle.forms.specs.Forms.{fssUtf};

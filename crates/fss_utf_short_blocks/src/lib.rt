@@ -1,5 +1,5 @@
-// A block of FSS-UTF characters of one byte and two, which the measure has accepted, decoded without tests. `specs/ShortBlock` says what is told
-// of a block.
+// A block of FSS-UTF characters of one byte and two, which the measure has accepted, decoded without tests. `specs/ShortBlock` says what is
+// told of a block.
 ghost use mathlib.Core.Path.{_≡_};
 ghost use mathlib.Core.Bool.{false};
 ghost use Prim.Native.Nat.{_+_, _%_, _<_, _≤_};

@@ -1,5 +1,5 @@
-// FSS-UTF tested in blocks of 64 bytes, each byte with the three before it: `specs/Validation` has the rule, and the weights that count what the
-// blocks become.
+// FSS-UTF tested in blocks of 64 bytes, each byte with the three before it: `specs/Validation` has the rule, and the weights that count
+// what the blocks become.
 ghost use mathlib.Core.Path.{_≡_};
 ghost use mathlib.Core.Bool.{false};
 ghost use Prim.Native.Nat.{_+_, _<_, _≤_};

@@ -1,7 +1,7 @@
 // What a gateway links: the calls of the library under their C names, as `include/jiskromet.h` declares them.
 //
-// Each answer is a struct of numbers: `c_answers` has them, in `specs/Answer` which number stands for which case, and in `specs/Promises` what
-// converters, measures and lossy decodings promise.
+// Each answer is a struct of numbers: `c_answers` has them, in `specs/Answer` which number stands for which case, and in `specs/Promises`
+// what converters, measures and lossy decodings promise.
 pub mod conversions;
 pub mod decodings;
 pub mod starts;

@@ -1,5 +1,5 @@
-// The loop of lossy decoding from FSS-UTF and UTF-EBCDIC: it measures, tests the room, and writes only then. `lossy` has the public calls, `Filling` of
-// `lossy_runs` what the loop keeps.
+// The loop of lossy decoding from FSS-UTF and UTF-EBCDIC: it tests the room, and writes only then. `lossy` has the public calls, `Filling`
+// of `lossy_runs` what the loop keeps.
 use lossy_runs::Read;
 use tables::ByteForm;
 use types::Counts;

@@ -1,4 +1,4 @@
-// The loop of lossy decoding from UTF-16: it measures, tests the room, and writes only then. `lossy` has the public calls, `Filling` of
+// The loop of lossy decoding from UTF-16: it tests the room, and writes only then. `lossy` has the public calls, `Filling` of
 // `lossy_runs` what the loop keeps.
 use types::Counts;
 use types::Decoding;

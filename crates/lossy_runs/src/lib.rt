@@ -1,5 +1,5 @@
-// Characters of a text, many in one step of lossy decoding: what the steps of `fss_utf_lossy_runs`, `utf16_lossy_runs` and `ucs4_lossy_runs` share.
-// `specs/ReadOn` says what is asked and promised of them.
+// Characters of a text, many in one step of lossy decoding: what the steps of `fss_utf_lossy_runs`, `utf16_lossy_runs` and
+// `ucs4_lossy_runs` share. `specs/ReadOn` says what is asked and promised of them.
 ghost use mathlib.Core.Path.{_≡_};
 ghost use Prim.Native.Nat.{_+_, _≤_};
 ghost use lib.ListN.{length};

@@ -1,5 +1,5 @@
-// The measure of a UTF-16 text: how many code units it has in another form, or the refusal. `conversion_length` has a public call for each pair of
-// forms. The rules are `specs/Conversion` of `forms`, and what the loop keeps is `Measuring` of `laws`.
+// The measure of a UTF-16 text: how many code units it has in another form, or the refusal. `conversion_length` has a public call for each
+// pair of forms. The rules are `specs/Conversion` of `forms`, and what the loop keeps is `Measuring` of `laws`.
 use encoder::Target;
 use types::Conversion;
 use types::Item;

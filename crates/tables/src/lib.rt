@@ -1,5 +1,5 @@
-// The constant tables of the byte forms: roles, lead bases and lowest values for both layouts; `ebcdic_exchange` has the exchange. Each function's
-// contract says by the rules what its table holds; `specs/ByteForms` has the two forms by one parameter.
+// The constant tables of the byte forms: roles, lead bases and lowest values for both layouts; `ebcdic_exchange` has the exchange. Each
+// function's contract says by the rules what its table holds; `specs/ByteForms` has the two forms by one parameter.
 ghost use mathlib.Core.Path.{_≡_};
 ghost use Prim.Native.Nat.{_<_, _≤_};
 ghost use lib.ListN.{length};

@@ -1,11 +1,11 @@
-// How many code units UCS-4 becomes, counted in blocks: what makes the measure of a strict conversion from UCS-4 fast. No loop over a block has a
-// branch, so that each is compiled to vector code. The promise is `Counted` in `Runs` of `laws`.
+// How many code units UCS-4 becomes, counted in blocks: what makes the measure of a strict conversion from UCS-4 fast. No loop over a block
+// has a branch, so that each is compiled to vector code. The promise is `Counted` in `Runs` of `laws`.
 use encoder::Target;
 use tables::ByteForm;
 use types::Run;
 ghost use mathlib.Core.Path.{_≡_};
 ghost use mathlib.Core.Bool.{false};
-ghost use Prim.Native.Nat.{_+_, _<_, _≤_};
+ghost use Prim.Native.Nat.{_+_, _≤_};
 ghost use lib.ListN.{length};
 ghost use Rattle.forms.specs.Forms.{ucs4, utf16};
 ghost use Rattle.tables.specs.ByteForms.{byteForm};

@@ -1,5 +1,5 @@
-// Many values in UTF-16, in blocks. They must have encodings, and the room must suffice: `laws/proofs/Values` says what is asked and promised.
-ghost use Prim.Native.Nat.{_+_};
+// Many values in UTF-16, in blocks. They must have encodings, and the room must suffice: `laws/proofs/Values` says what is asked and
+// promised.
 ghost use lib.ListN.{length};
 ghost use Rattle.forms.specs.Forms.{utf16};
 ghost use Rattle.laws.proofs.Blocks.{AtMost};

@@ -1,4 +1,5 @@
-// A checked reader of the UTF-EBCDIC characters of one to four bytes, for the loops that take many of them.
+// A checked reader of the UTF-EBCDIC characters of one to four bytes, for the loops that take many of them. The exchange table is a
+// parameter, so that a loop looks up in one copy of it.
 use characters::Short;
 use tables::ByteForm;
 ghost use mathlib.Core.Path.{_≡_};

@@ -3,7 +3,7 @@
 use encoder::Target;
 use types::Run;
 ghost use mathlib.Core.List.{map};
-ghost use Prim.Native.Nat.{_+_, _<_, _≤_};
+ghost use Prim.Native.Nat.{_+_, _≤_};
 ghost use lib.ListN.{length};
 ghost use Rattle.forms.specs.Exchange.{i8Of};
 ghost use Rattle.forms.specs.Forms.{utfEbcdic};

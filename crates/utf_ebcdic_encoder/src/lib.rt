@@ -1,5 +1,5 @@
-// One value in UTF-EBCDIC, by straight code where it has at most four bytes, and with the inverse table as a parameter, so that a loop looks up
-// in one copy of it.
+// One value in UTF-EBCDIC, by straight code where it has at most four bytes, and with the inverse table as a parameter, so that a loop
+// looks up in one copy of it.
 use tables::ByteForm;
 ghost use mathlib.Core.Path.{_≡_};
 ghost use Prim.Native.Nat.{_+_, _<_, _≤_};

@@ -1,6 +1,6 @@
-// Runs of UTF-EBCDIC characters written as UCS-4 at once: what makes that conversion fast, beside `utf_ebcdic_count`, which has measured them. A run
-// is whole characters; what is not taken here is left to the item reader. The promise is `Wrote` in `Runs` of `laws`. Each run copies the
-// exchange table once and looks up in the copy.
+// Runs of UTF-EBCDIC characters written as UCS-4 at once: what makes that conversion fast, beside `utf_ebcdic_count`, which has measured
+// them. A run is whole characters; what is not taken here is left to the item reader. The promise is `Wrote` in `Runs` of `laws`. Each run
+// copies the exchange table once and looks up in the copy.
 use types::Run;
 ghost use mathlib.Core.Path.{_≡_};
 ghost use Prim.Native.Nat.{_+_, _≤_};
