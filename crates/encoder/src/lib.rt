@@ -1,5 +1,15 @@
-// How many code units a value has in a target form. `byte_encoder`, `utf16_encoder` and `ucs4_encoder` write one value, by the width of the
-// code units. These functions ask that the value lies below 80000000 and that the room suffices: the calls of `conversion` ask nothing.
+// Values written in a target form. Here: how many code units a value has. `bytes`, `utf16` and `ucs4` write one value, by the width of the
+// code units; `fss_utf` and `utf_ebcdic` the same by straight code; `fss_utf_blocks` and `utf16_blocks` many at once, within
+// `value_bounds`. These functions ask that the value lies below 80000000 and that the room suffices: the calls of `conversion` ask nothing.
+pub mod bytes;
+pub mod fss_utf;
+pub mod fss_utf_blocks;
+pub mod ucs4;
+pub mod utf16;
+pub mod utf16_blocks;
+pub mod utf_ebcdic;
+pub mod value_bounds;
+
 use tables::ByteForm;
 ghost use mathlib.Core.Path.{_≡_};
 ghost use Prim.Native.Nat.{_<_};
@@ -32,9 +42,9 @@ pub fn encoded_length(target: Target, value: u32) -> usize
     ensures { λ r. ⌜ r ≡ length (encode (targetForm target) value) ⌝ }
 {
     match target {
-        Target::FssUtf => byte_encoder::encoded_length(ByteForm::FssUtf, value),
-        Target::UtfEbcdic => byte_encoder::encoded_length(ByteForm::UtfEbcdic, value),
-        Target::Utf16 => utf16_encoder::encoded_length(value),
+        Target::FssUtf => crate::bytes::encoded_length(ByteForm::FssUtf, value),
+        Target::UtfEbcdic => crate::bytes::encoded_length(ByteForm::UtfEbcdic, value),
+        Target::Utf16 => crate::utf16::encoded_length(value),
         Target::Ucs4 => 1,
     }
 }

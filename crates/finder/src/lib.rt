@@ -2,7 +2,11 @@
 //
 // Each gives the start of the item, in the reading of the whole text, that covers the asked offset: `itemStart` in `specs/Start` of
 // `forms`. It looks at the asked code unit and at those before it that the longest item reaches, and at no others: its cost does not grow
-// with the text.
+// with the text. `bytes`, `utf16` and `ucs4` have them by the width of the code units.
+mod bytes;
+mod ucs4;
+mod utf16;
+
 use tables::ByteForm;
 use types::Start;
 ghost use mathlib.Core.Path.{_≡_};
@@ -12,23 +16,23 @@ ghost use Rattle.forms.specs.Start.{itemStart};
 pub fn fss_utf_item_start(text: &[u8], offset: usize) -> Start
     ensures { λ r. ⌜ r ≡ itemStart fssUtf (now (text .entry)) offset ⌝ }
 {
-    start_in_bytes::item_start(ByteForm::FssUtf, text, offset)
+    crate::bytes::item_start(ByteForm::FssUtf, text, offset)
 }
 
 pub fn utf_ebcdic_item_start(text: &[u8], offset: usize) -> Start
     ensures { λ r. ⌜ r ≡ itemStart utfEbcdic (now (text .entry)) offset ⌝ }
 {
-    start_in_bytes::item_start(ByteForm::UtfEbcdic, text, offset)
+    crate::bytes::item_start(ByteForm::UtfEbcdic, text, offset)
 }
 
 pub fn utf16_item_start(text: &[u16], offset: usize) -> Start
     ensures { λ r. ⌜ r ≡ itemStart utf16 (now (text .entry)) offset ⌝ }
 {
-    start_in_utf16::item_start(text, offset)
+    crate::utf16::item_start(text, offset)
 }
 
 pub fn ucs4_item_start(text: &[u32], offset: usize) -> Start
     ensures { λ r. ⌜ r ≡ itemStart ucs4 (now (text .entry)) offset ⌝ }
 {
-    start_in_ucs4::item_start(text, offset)
+    crate::ucs4::item_start(text, offset)
 }

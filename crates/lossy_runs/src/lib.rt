@@ -1,5 +1,10 @@
-// Characters of a text, many in one step of lossy decoding: what the steps of `fss_utf_lossy_runs`, `utf16_lossy_runs` and
-// `ucs4_lossy_runs` share. `specs/ReadOn` says what is asked and promised of them.
+// Characters of a text, many in one step of lossy decoding: `fss_utf`, `utf16` and `ucs4`, and here what they share. `read_on` puts the
+// values and starts of the characters from an offset on into the two lent buffers, and stops where there may be a mark, which is left to
+// the item reader. `specs/ReadOn` says what is asked and promised.
+pub mod fss_utf;
+pub mod ucs4;
+pub mod utf16;
+
 ghost use mathlib.Core.Path.{_≡_};
 ghost use Prim.Native.Nat.{_+_, _≤_};
 ghost use lib.ListN.{length};

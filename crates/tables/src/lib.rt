@@ -1,5 +1,7 @@
-// The constant tables of the byte forms: roles, lead bases and lowest values for both layouts; `ebcdic_exchange` has the exchange. Each
-// function's contract says by the rules what its table holds; `specs/ByteForms` has the two forms by one parameter.
+// The constant tables of the byte forms: roles, lead bases and lowest values for both layouts; `exchange` has the exchange, its inverse and
+// the shadow flags. Each function's contract says by the rules what its table holds; `specs/ByteForms` has the two forms by one parameter.
+pub mod exchange;
+
 ghost use mathlib.Core.Path.{_≡_};
 ghost use Prim.Native.Nat.{_<_, _≤_};
 ghost use lib.ListN.{length};
@@ -35,7 +37,7 @@ pub fn plain(form: ByteForm, byte: u8) -> u8
 {
     match form {
         ByteForm::FssUtf => byte,
-        ByteForm::UtfEbcdic => ebcdic_exchange::exchange(byte),
+        ByteForm::UtfEbcdic => crate::exchange::exchange(byte),
     }
 }
 
@@ -45,7 +47,7 @@ pub fn unit(form: ByteForm, plain: u8) -> u8
 {
     match form {
         ByteForm::FssUtf => plain,
-        ByteForm::UtfEbcdic => ebcdic_exchange::inverse(plain),
+        ByteForm::UtfEbcdic => crate::exchange::inverse(plain),
     }
 }
 
@@ -77,7 +79,7 @@ fn role_fss_utf(byte: u8) -> u8
 fn role_utf_ebcdic(byte: u8) -> u8
     ensures { λ r. ⌜ r ≡ roleNumber (byteForm ByteForm.UtfEbcdic .role byte) ⌝ }
 {
-    let f = ebcdic_exchange::flag(byte);
+    let f = crate::exchange::flag(byte);
     if f == 0 {
         return 1;
     }

@@ -1,0 +1,63 @@
+// FSS-UTF and UTF-EBCDIC: by the nearest bytes alone.
+use tables::ByteForm;
+use types::Start;
+ghost use mathlib.Core.Path.{_≡_};
+ghost use Prim.Native.Nat.{_-_};
+ghost use lib.ListN.{length};
+ghost use Rattle.forms.specs.Start.{itemStart};
+ghost use Rattle.laws.proofs.Distances.{unitsBefore, distanceBack};
+ghost use Rattle.tables.specs.ByteForms.{byteForm};
+
+// How many bytes the form's longest item has.
+fn longest(form: ByteForm) -> usize
+    ensures { λ r. ⌜ r ≡ byteForm form .longest ⌝ }
+{
+    match form {
+        ByteForm::FssUtf => 6,
+        ByteForm::UtfEbcdic => 7,
+    }
+}
+
+// Where the last `count` units before an offset begin: at the text's start where there are fewer.
+fn back(offset: usize, count: usize) -> usize
+    ensures { λ r. ⌜ r ≡ offset - count ⌝ }
+{
+    if offset <= count {
+        return 0;
+    }
+    offset - count
+}
+
+// How far before the last of these bytes its item starts. They are all that is looked at, backwards: trailing bytes up to the lead that takes them.
+fn distance_back(form: ByteForm, near: &[u8]) -> usize
+    ensures { λ r. ⌜ r ≡ distanceBack (byteForm form) 0 (unitsBefore (length (now (near .entry))) (now (near .entry))) ⌝ }
+{
+    let mut passed: usize = 0;
+    let mut at = near.len();
+    while 0 < at {
+        at -= 1;
+        let role = tables::role(form, near[at]) as usize;
+        if role != 9 {
+            if passed < role {
+                return passed;
+            }
+            return 0;
+        }
+        passed += 1;
+    }
+    0
+}
+
+pub fn item_start(form: ByteForm, text: &[u8], offset: usize) -> Start
+    ensures { λ r. ⌜ r ≡ itemStart (byteForm form) (now (text .entry)) offset ⌝ }
+{
+    if 65536 < text.len() {
+        return Start::Refused(answers::source_too_long());
+    }
+    if text.len() <= offset {
+        return Start::Refused(answers::offset_out_of_range(offset));
+    }
+    let to = offset + 1;
+    let from = back(to, longest(form));
+    Start::At(offset - distance_back(form, &text[from..to]))
+}

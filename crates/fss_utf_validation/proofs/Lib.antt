@@ -1,2 +1,0 @@
-pub mod Validating
-pub mod WellFormed

@@ -1,0 +1,10 @@
+pub mod FssUtfAsciiCounting
+pub mod Validating
+pub mod WellFormed
+pub mod TargetWeights
+pub mod UtfEbcdicExchanging
+pub mod Utf16Tests
+pub mod Utf16Pairs
+pub mod Utf16Counting
+pub mod Ucs4Units
+pub mod Ucs4Counting

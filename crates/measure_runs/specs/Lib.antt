@@ -1,0 +1,3 @@
+pub mod Validation
+pub mod Utf16Units
+pub mod Ucs4Bounds

@@ -1,0 +1,2 @@
+pub mod KnownBytes
+pub mod ShortRuns

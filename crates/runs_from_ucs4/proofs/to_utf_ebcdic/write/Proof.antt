@@ -1,0 +1,88 @@
+use Prim.Native.Nat.{_+_, _-_, _≤_, _<_}
+use mathlib.Core.Path.{_≡_}
+use lib.ListN.{length, getD}
+use denote.Ref.{now}
+use Rattle.forms.specs.Form.{span}
+use Rattle.forms.specs.Forms.{utfEbcdic, ucs4}
+use Rattle.laws.proofs.Progress.{CharacterAt, character-small, character-onward}
+use Rattle.laws.proofs.FourForms.{ucs4-laws}
+use Rattle.laws.proofs.Runs.{WritingRun, writing-run-begin, writing-run-stands, writing-run-held, writing-run-more}
+use Rattle.runs_from_ucs4.proofs.Units.{unit-stands}
+use borrow.Author.Needs.{needs}
+use native.Mathlib.Omega.{arith}
+use Rattle.runs_from_ucs4.proofs.to_utf_ebcdic.write.Statement.{statement}
+use Rattle.runs_from_ucs4.proofs.to_utf_ebcdic.write.Tie as tie
+
+abbrev Inv-loop : tie.InvT-loop
+Inv-loop src at dst₀ written table room length₀ units₀ dst length units = WritingRun ucs4 utfEbcdic src at written dst₀ length units dst
+
+abbrev μ-loop : tie.MeasureT-loop
+μ-loop src at dst₀ written table room length₀ units₀ dst length units = room - length
+
+read : (c : tie.In-loop Inv-loop μ-loop) → let z = c .before .before .before .before .before .args in
+    let p = z .at + c .before .loop .length in
+    CharacterAt ucs4 (now (z .src)) p (getD (now (z .src)) p 0) (span p 1)
+read c = unit-stands (writing-run-stands (c .before .loop .inv) (omega (arith, c .loop-test .taken, c .before .before .before .before .before .pre .0)))
+
+inverse-table-requires : tie.Need-inverse-table-requires Inv-loop μ-loop
+inverse-table-requires c κs = search needs
+
+sub-room : tie.Need-sub-room Inv-loop μ-loop
+sub-room c = search needs
+
+loop-holds : tie.Need-loop-holds Inv-loop μ-loop
+loop-holds c = writing-run-begin (c .before .before .before .pre .0) (c .before .before .before .pre .1)
+
+add-value : tie.Need-add-value Inv-loop μ-loop
+add-value c = omega (arith, c .before .loop .inv .wrote .run .inside, c .before .before .before .before .before .good)
+
+mul-value : tie.Need-mul-value Inv-loop μ-loop
+mul-value c = search needs
+
+shared-slice-read-value : tie.Need-shared-slice-read-value Inv-loop μ-loop
+shared-slice-read-value c = omega (arith, c .before .loop-test .taken, c .before .before .before .before .before .before .pre .0)
+
+add-write : tie.Need-add-write Inv-loop μ-loop
+add-write c = omega (arith, c .before .before .before .before .loop .inv .room, c .before .before .before .before .before .before .before .before .good)
+
+write-requires : tie.Need-write-requires Inv-loop μ-loop
+write-requires c κs = (c .before .before .before .before .before .inverse-table .ensures, character-small ucs4-laws (read (c .before .before .before)), writing-run-held (c .before .before .before .before .loop .inv) (read (c .before .before .before)) .1)
+
+add-length : tie.Need-add-length Inv-loop μ-loop
+add-length c = omega (arith, character-onward (read (c .before .before .before .before .before .before)) .1, c .before .before .before .before .before .before .before .before .before .before .before .good)
+
+sub-units : tie.Need-sub-units Inv-loop μ-loop
+sub-units c = omega (arith, c .before .before .write .ensures .0)
+
+loop-less : tie.Need-loop-less Inv-loop μ-loop
+loop-less c = omega (arith, c .before .before .before .before .before .before .loop-test .taken)
+
+loop-again : tie.Need-loop-again Inv-loop μ-loop
+loop-again c = writing-run-more (c .before .before .before .before .before .before .before .loop .inv) (read (c .before .before .before .before .before .before)) (c .before .before .write .ensures .0) (c .before .before .write .ensures .1)
+
+same-length : tie.Need-same-length Inv-loop μ-loop
+same-length c = c .before .loop .inv .same
+
+returns : tie.Need-returns Inv-loop μ-loop
+returns c = c .before .loop .inv .wrote
+
+pub write-spec : {M : Type 1} → statement M
+write-spec =
+    tie.close
+    (tie.spec
+    Inv-loop
+    μ-loop
+    inverse-table-requires
+    sub-room
+    loop-holds
+    add-value
+    mul-value
+    shared-slice-read-value
+    add-write
+    write-requires
+    add-length
+    sub-units
+    loop-less
+    loop-again
+    same-length
+    returns)

@@ -1,0 +1,3 @@
+// From UCS-4.
+pub mod to_bytes;
+pub mod to_utf16;
