@@ -94,7 +94,6 @@ unitEncodings =
     excludes utf16 0xD800 Unrepresentable ∷
     excludes utf16 0xDFFF Unrepresentable ∷
     encodes utf16 0xE000 (0xE000 ∷ []) ∷
-    encodes utf16 0xFFFF (0xFFFF ∷ []) ∷
     encodes utf16 0x10401 (0xD801 ∷ 0xDC01 ∷ []) ∷
     encodes utf16 0x10FFFF (0xDBFF ∷ 0xDFFF ∷ []) ∷
     excludes utf16 0x110000 Unrepresentable ∷
@@ -105,6 +104,26 @@ unitEncodings =
 
 pub unit-encodings-hold : map actual unitEncodings ≡ map expected unitEncodings
 unit-encodings-hold = refl
+
+-- "FEFF is a character like another. FFFE and FFFF are carried."
+abbrev pub carriedValues : List Example
+carriedValues =
+    encodes fssUtf 0xFEFF (0xEF ∷ 0xBB ∷ 0xBF ∷ []) ∷
+    encodes fssUtf 0xFFFE (0xEF ∷ 0xBF ∷ 0xBE ∷ []) ∷
+    encodes fssUtf 0xFFFF (0xEF ∷ 0xBF ∷ 0xBF ∷ []) ∷
+    encodes utfEbcdic 0xFEFF (0xB3 ∷ 0xFE ∷ 0xDE ∷ 0xFE ∷ []) ∷
+    encodes utfEbcdic 0xFFFE (0xB3 ∷ 0xFE ∷ 0xFE ∷ 0xFD ∷ []) ∷
+    encodes utfEbcdic 0xFFFF (0xB3 ∷ 0xFE ∷ 0xFE ∷ 0xFE ∷ []) ∷
+    encodes utf16 0xFEFF (0xFEFF ∷ []) ∷
+    encodes utf16 0xFFFE (0xFFFE ∷ []) ∷
+    encodes utf16 0xFFFF (0xFFFF ∷ []) ∷
+    encodes ucs4 0xFEFF (0xFEFF ∷ []) ∷
+    encodes ucs4 0xFFFE (0xFFFE ∷ []) ∷
+    encodes ucs4 0xFFFF (0xFFFF ∷ []) ∷
+    []
+
+pub carried-values-hold : map actual carriedValues ≡ map expected carriedValues
+carried-values-hold = refl
 
 -- the listing; a short sequence and what follows it; units that take none; too long; fault 8
 abbrev pub readings : List Example

@@ -1,4 +1,5 @@
-// What a gateway links: the calls of the library under their C names, as `include/jiskromet.h` declares them.
+// What a gateway links: the calls of the library under their C names, as `include/jiskromet.h` declares them. Here: the item at an offset;
+// `conversions`, `decodings` and `starts` have the others.
 //
 // Each answer is a struct of numbers: `c_answers` has them, in `specs/Answer` which number stands for which case, and in `specs/Promises`
 // what converters, measures and lossy decodings promise.

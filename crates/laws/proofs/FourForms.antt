@@ -1,7 +1,9 @@
 -- The four forms keep the laws.
 use Prim.Native.Nat.{ℕ, zero, suc, _+_, _-_, _*_, _/_, _^_, _≤_, _<_}
 use mathlib.Core.Path.{_≡_, refl, sym, ap, _∙_, subst}
+use mathlib.Core.Logic.{_⊎_, inl, inr}
 use mathlib.Core.Bool.{Bool, true, false, cond, _||_}
+use mathlib.Core.List.{List, []}
 use mathlib.Core.Option.{Option, none, some}
 use native.Mathlib.Omega.{arith}
 use native.Mathlib.Nat.{div-one}
@@ -10,7 +12,7 @@ use lib.Dec.{ltb}
 use borrow.Author.Tests.{ltb-false}
 use Rattle.types.specs.declared.Fault.{Fault}
 use Rattle.types.specs.declared.Fault.the-variants.{Unrepresentable}
-use Rattle.forms.specs.Form.{Role, lead, trailing, invalid}
+use Rattle.forms.specs.Form.{Role, lead, trailing, invalid, sequence, firstOf}
 use Rattle.forms.specs.Layout.{Layout, roleOf, rowAt, rowLimit}
 use Rattle.forms.specs.Exchange.{i8Of, ebcdicOf}
 use Rattle.forms.specs.Forms.{byteLayout, isSurrogate, utf16Layout, ucs4Layout, fssUtf, i8, utfEbcdic, utf16, ucs4}
@@ -115,3 +117,20 @@ utf16-laws = laws utf16Layout utf16-fits
 
 pub ucs4-laws : Laws ucs4
 ucs4-laws = laws ucs4Layout ucs4-fits
+
+-- "A UCS-4 unit is always one item."
+module _ (u : ℕ) (us : List ℕ) where
+  alone-by-role : (o : Role) → roleOf ucs4Layout u ≡ o → (o ≡ lead 0) ⊎ (o ≡ invalid) → firstOf ucs4 u us ≡ sequence u []
+  alone-by-role (lead zero) e h = rw e
+  alone-by-role (lead (suc k)) e (inl h) = absurd (let z : _≡_ {A = ℕ} 0 1 = cc in omega arith)
+  alone-by-role (lead (suc k)) e (inr h) = absurd (let z : _≡_ {A = ℕ} 0 1 = cc in omega arith)
+  alone-by-role trailing e (inl h) = absurd (let z : _≡_ {A = ℕ} 0 1 = cc in omega arith)
+  alone-by-role trailing e (inr h) = absurd (let z : _≡_ {A = ℕ} 0 1 = cc in omega arith)
+  alone-by-role invalid e h = rw e
+
+  ucs4-role : Dec (u < 0x80000000) → (roleOf ucs4Layout u ≡ lead 0) ⊎ (roleOf ucs4Layout u ≡ invalid)
+  ucs4-role (yes h) = inl (rw (trails-above 0 0 u (omega arith), within-in 0 0x7FFFFFFF u (omega arith) (omega arith)))
+  ucs4-role (no h) = inr (ucs4-invalid u (omega arith))
+
+  pub ucs4-one-unit : firstOf ucs4 u us ≡ sequence u []
+  ucs4-one-unit = alone-by-role (roleOf ucs4Layout u) refl (ucs4-role (decLt u 0x80000000))

@@ -1,4 +1,4 @@
-// The lines of the listing program: `listing` renders the items of a text, and `specs/Listing` says what it prints.
+// The lines of the listing program: `listing` renders the items of a text, and `specs/Listing` says what it prints. `line` makes one line.
 mod line;
 
 use line::Line;
