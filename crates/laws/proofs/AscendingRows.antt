@@ -4,7 +4,7 @@ use mathlib.Core.Path.{_≡_, refl}
 use mathlib.Core.Bool.{Bool, true, false, cond, _&&_, _||_}
 use mathlib.Core.List.{List, [], _∷_}
 use native.Mathlib.Omega.{arith}
-use native.Mathlib.Nat.{not-suc-le-zero, le-of-suc-le-suc, add-zero, zero-add, add-suc, suc-add}
+use native.Mathlib.Nat.{not-suc-le-zero, le-of-suc-le-suc, add-zero, zero-add, add-suc, suc-add, mul-pos}
 use lib.Dec.{leb, ltb, eqb}
 use borrow.Author.Tests.{ltb-true, leb-true, eqb-true}
 use lib.ListN.{length, getD}
@@ -72,6 +72,7 @@ module _ (low R : ℕ) where
 
   -- what holds of a row wherever it stands
   pub record RowIs (r : Row) (k : ℕ) : Type 0 where
+    pub order : r .first ≤ r .last
     pub off : (u : ℕ) → r .first ≤ u → u ≤ r .last → trails low R u ≡ false
     pub zeroed : r .origin ≡ 0
     pub positive : 0 < R ^ k
@@ -81,7 +82,7 @@ module _ (low R : ℕ) where
   row-is from before [] k e i h = absurd (not-suc-le-zero h)
   row-is from before (r ∷ rs) k e zero h =
       let f = first-fits from before r rs k e in
-      rw (add-zero k) (record { off = f .off; zeroed = f .zeroed; positive = f .positive; bound = f .bound })
+      rw (add-zero k) (record { order = f .order; off = f .off; zeroed = f .zeroed; positive = f .positive; bound = f .bound })
   row-is from before (r ∷ rs) k e (suc i) h =
       rw (add-suc k i, ← suc-add k i) (row-is (suc (r .last)) (limitOf R r k) rs (suc k) (later-ascend from before r rs k e) i (le-of-suc-le-suc h))
 
@@ -137,6 +138,12 @@ module _ (L : Layout) (passes : ascending L ≡ true) where
 
   pub row-of : (k : ℕ) → k < length (L .rows) → RowIs (L .low) (L .radix) (rowAt L k) k
   row-of k h = rw (zero-add k) at (row-is (L .low) (L .radix) 0 0 (L .rows) 0 ok k h)
+
+  pub limit-positive : (k : ℕ) → k < length (L .rows) → 0 < rowLimit L k
+  limit-positive k h =
+      let r = row-of k h in
+      let p : 0 < (rowAt L k) .last + 1 - (rowAt L k) .first = omega (arith, r .order) in
+      omega (arith, mul-pos p (r .positive))
 
   pub limits-rise : (k : ℕ) → suc k < length (L .rows) → rowLimit L k ≤ rowLimit L (suc k)
   limits-rise k h = rw (zero-add k, zero-add (suc k)) at (row-rises (L .low) (L .radix) 0 0 (L .rows) 0 ok k h)

@@ -92,12 +92,14 @@ module _ (to from : ℕ → ℕ) (F : Form) where
       trail-from [] a = tt
       trail-from (x ∷ xs) a = (ap (F .role) (again x (trailing-valid (a .0))) ∙ a .0, trail-from xs (a .1))
 
+      pub full-to : (c : Sequence) → Full G c → Full F (exchangedSequence to c)
+      full-to c f = record { leads = rw (length-map (c .rest) to) (f .leads); trail = trail-to (c .rest) (f .trail) }
+
+      pub units-again : (c : Sequence) → Full G c → map from (units (exchangedSequence to c)) ≡ units c
+      units-again c f = rw (there (c .first) (lead-valid (f .leads)), from-to (c .rest) (f .trail))
+
       pub reads-to : (c : Sequence) (v : ℕ) → Reads G c v → Reads F (exchangedSequence to c) v
-      reads-to c v r =
-          record {
-            full = record { leads = rw (length-map (c .rest) to) (r .full .leads); trail = trail-to (c .rest) (r .full .trail) };
-            shows = sym (full-same c) ∙ r .shows;
-          }
+      reads-to c v r = record { full = full-to c (r .full); shows = sym (full-same c) ∙ r .shows }
 
       to-from-sequence : (c : Sequence) → Full F c → exchangedSequence to (exchangedSequence from c) ≡ c
       to-from-sequence c f = same-units _ c (rw (again (c .first) (lead-valid (f .leads)), to-from (c .rest) (f .trail)))
@@ -123,7 +125,7 @@ module _ (to from : ℕ → ℕ) (F : Form) where
       only-of c v r =
           encode-from v
           ∙ ap (map from) (laws .only (exchangedSequence to c) v (reads-to c v r))
-          ∙ rw (there (c .first) (lead-valid (r .full .leads)), from-to (c .rest) (r .full .trail))
+          ∙ units-again c (r .full)
 
       map-nil : (e : List ℕ) → map from e ≡ [] → e ≡ []
       map-nil [] h = refl

@@ -11,6 +11,7 @@ pub mod FourForms
 pub mod Reading
 pub mod Spans
 pub mod LayoutTable
+pub mod ByteTables
 pub mod Items
 pub mod ReadItems
 pub mod Marks

@@ -18,9 +18,10 @@ use Rattle.forms.specs.Form.{Sequence, size, Form, firstOf, sequences, Content,
 use Rattle.forms.specs.Forms.{fssUtf, utfEbcdic, utf16, ucs4}
 use Rattle.laws.proofs.Sequences.{sequences-after}
 use Rattle.laws.proofs.FormLaws.{Laws}
+use Rattle.laws.proofs.FourForms.{fssUtf-laws, utfEbcdic-laws, utf16-laws, ucs4-laws}
 use Rattle.laws.proofs.Spans.{item-span, size-within, size-longest}
 use Rattle.reader.specs.Step.{cursor, behind, stepOver, stepAt}
-use Rattle.reader.specs.Walk.{orEnd, stepsFrom, movedItem, movedStep}
+use Rattle.reader.specs.Walk.{Moves, orEnd, stepsFrom, movedItem, movedStep}
 use Rattle.reader.specs.declared.Cursor.{Cursor}
 use Rattle.reader.specs.declared.Step.{Step}
 use Rattle.reader.specs.declared.Step.the-variants.{Next, End, Refused}
@@ -31,12 +32,6 @@ step-over F s c w h = rw (le-ltb limit (length s) w, le-ltb (length s) (c .offse
 
 length-of : (F : Form) (p u : ℕ) (us : List ℕ) → (spanOf (itemOf F p (firstOf F u us))) .length ≡ size (firstOf F u us)
 length-of F p u us = ap (λ (x : Span). x .length) (item-span F p (firstOf F u us))
-
--- "Each step that isn't End moves on by at least one unit", by at most the longest item, and stays within the text
-pub record Moves (F : Form) (s : List ℕ) (c d : Cursor) : Type 0 where
-  pub on : c .offset < d .offset
-  pub reach : d .offset ≤ c .offset + F .longest
-  pub within : d .offset ≤ length s
 
 module _ (F : Form) (laws : Laws F) (some : 0 < F .longest) (s : List ℕ) where
   moves-over : (c d : Cursor) (i : Item) (l : List ℕ) → drop (c .offset) s ≡ l → stepOver F c l ≡ Next i d → c .offset ≤ length s → Moves F s c d
@@ -60,6 +55,18 @@ module _ (F : Form) (laws : Laws F) (some : 0 < F .longest) (s : List ℕ) where
 
   pub step-moves : (c d : Cursor) (i : Item) → stepAt F s c ≡ Next i d → Moves F s c d
   step-moves c d i n = moves-if c d i (ltb limit (length s)) (ltb (length s) (c .offset)) _ _ refl n
+
+pub fssUtf-moves : (s : List ℕ) (c d : Cursor) (i : Item) → stepAt fssUtf s c ≡ Next i d → Moves fssUtf s c d
+fssUtf-moves = step-moves fssUtf fssUtf-laws (omega arith)
+
+pub utfEbcdic-moves : (s : List ℕ) (c d : Cursor) (i : Item) → stepAt utfEbcdic s c ≡ Next i d → Moves utfEbcdic s c d
+utfEbcdic-moves = step-moves utfEbcdic utfEbcdic-laws (omega arith)
+
+pub utf16-moves : (s : List ℕ) (c d : Cursor) (i : Item) → stepAt utf16 s c ≡ Next i d → Moves utf16 s c d
+utf16-moves = step-moves utf16 utf16-laws (omega arith)
+
+pub ucs4-moves : (s : List ℕ) (c d : Cursor) (i : Item) → stepAt ucs4 s c ≡ Next i d → Moves ucs4 s c d
+ucs4-moves = step-moves ucs4 ucs4-laws (omega arith)
 
 -- "Reading at a place reads as though the text began there": a step at p is the step at 0 of the rest, p units further on
 module _ (F : Form) where
