@@ -1,4 +1,6 @@
 // FSS-UTF and UTF-EBCDIC: by the nearest bytes alone.
+use reader::FssUtf;
+use reader::UtfEbcdic;
 use tables::ByteForm;
 use types::Start;
 ghost use mathlib.Core.Path.{_≡_};
@@ -13,8 +15,8 @@ fn longest(form: ByteForm) -> usize
     ensures { λ r. ⌜ r ≡ byteForm form .longest ⌝ }
 {
     match form {
-        ByteForm::FssUtf => 6,
-        ByteForm::UtfEbcdic => 7,
+        ByteForm::FssUtf => FssUtf::LONGEST,
+        ByteForm::UtfEbcdic => UtfEbcdic::LONGEST,
     }
 }
 
