@@ -1,3 +1,4 @@
 pub mod Cells
 pub mod ThreeParts
 pub mod LossyCalls
+pub mod ExactLossy

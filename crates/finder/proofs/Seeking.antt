@@ -11,7 +11,8 @@ use Rattle.forms.specs.Fault.{limit}
 use Rattle.forms.specs.Form.{Role, lead, trailing, invalid, Form}
 use Rattle.forms.specs.Start.{itemStart}
 use Rattle.laws.proofs.FormLaws.{Laws}
-use Rattle.laws.proofs.Distances.{unitsBefore, nearest, distanceAt, distanceBack, part-nearest}
+use Rattle.laws.specs.Starts.{unitsBefore, nearest}
+use Rattle.laws.proofs.Distances.{distanceAt, distanceBack, part-nearest}
 use Rattle.laws.proofs.Starts.{start-near}
 use Rattle.tables.specs.ByteForms.{byteForm, roleNumber}
 use Rattle.tables.specs.declared.ByteForm.{ByteForm}

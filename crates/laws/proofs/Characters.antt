@@ -1,23 +1,22 @@
 -- Texts of well-formed characters: how they read, and that an accepted text is one.
-use Prim.Native.Nat.{ℕ, zero, suc, _+_, _≤_, _<_}
+use Prim.Native.Nat.{ℕ, zero, suc, _+_, _≤_}
 use mathlib.Core.Path.{_≡_, refl, sym, ap, _∙_, subst}
 use mathlib.Core.Logic.{_≢_}
 use mathlib.Core.Bool.{Bool, true, false, cond}
 use mathlib.Core.List.{List, [], _∷_, _++_, append-assoc, append-nil}
-use mathlib.Core.Option.{Option, none, some}
 use native.Mathlib.Omega.{arith}
 use native.Mathlib.Nat.{add-assoc, add-zero}
 use lib.Dec.{eqb}
 use borrow.Author.Tests.{eq-eqb, eqb-true}
-use lib.ListN.{length, drop, length-append}
+use lib.ListN.{length, length-append}
 use Rattle.types.specs.declared.Fault.{Fault}
 use Rattle.types.specs.declared.Item.{Item}
-use Rattle.types.specs.declared.Item.the-variants.{Character, Mark}
-use Rattle.types.specs.declared.Span.{Span}
+use Rattle.types.specs.declared.Item.the-variants.{Character}
 use Rattle.types.specs.declared.Refusal.{Refusal}
-use Rattle.forms.specs.Form.{Role, lead, trailing, invalid, Sequence, sequence, units, size, Form, asked, firstOf, sequencesAfter, sequences, Content, character, mark, fullContent, contentAs, content, span, withSpan, itemOf, itemsFrom, items, unless, encode, encodeAll, AllEncodable}
-use Rattle.forms.specs.Conversion.{Outcome, converted, refused, encoding, refusalAt, prepend, put, convertItems}
-use Rattle.laws.proofs.Sequences.{Full, AllTrailing, joined, taken-trailing, sequences-full, sequences-joined}
+use Rattle.forms.specs.Form.{Role, lead, trailing, invalid, Sequence, sequence, units, size, Form, asked, firstOf, sequencesAfter, sequences, Content, character, mark, fullContent, contentAs, content, span, withSpan, itemOf, itemsFrom, items, encode, encodeAll, AllEncodable}
+use Rattle.forms.specs.Conversion.{Outcome, converted, refused, refusalAt, prepend, put, convertItems}
+use Rattle.laws.specs.TwelvePairs.{Accepted}
+use Rattle.laws.proofs.Sequences.{AllTrailing, joined, taken-trailing, sequences-full, sequences-joined}
 use Rattle.laws.proofs.FormLaws.{Reads, Laws}
 
 -- the characters of values, one behind the other from p on
@@ -103,14 +102,6 @@ put-some (u ∷ e) r o n = refl
 pub put-converted : (e es : List ℕ) (r : Refusal) (o : Outcome) → put e r o ≡ converted es → (e ≢ []) × (prepend e o ≡ converted es)
 put-converted [] es r o h = absurd (let z : _≡_ {A = ℕ} 0 1 = cc in omega arith)
 put-converted (u ∷ e) es r o h = ((λ n. let z : _≡_ {A = ℕ} 0 1 = cc in omega arith), h)
-
--- what an accepted text is: characters of values that both forms have encodings of; and its result: their encodings in the other
-pub record Accepted (F G : Form) (s es : List ℕ) : Type 0 where
-  pub values : List ℕ
-  pub source : s ≡ encodeAll F values
-  pub result : es ≡ encodeAll G values
-  pub from : AllEncodable F values
-  pub to : AllEncodable G values
 
 module _ (F : Form) (laws : Laws F) (G : Form) where
   -- characters that the target holds are converted one by one

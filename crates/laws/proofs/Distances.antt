@@ -11,17 +11,9 @@ use borrow.Author.Tests.{lt-ltb, le-ltb, le-leb, lt-leb}
 use lib.ListN.{length, getD, take, drop, length-append, length-drop, take-append-drop}
 use lib.Seq.{drop-cons, drop-append-le, length-take-le, take-all, getD-take, getD-drop}
 use Rattle.forms.specs.Form.{Role, lead, trailing, invalid, Sequence, size, Form, asked, isTrailing, taken, sequences}
+use Rattle.laws.specs.Starts.{unitsBefore, nearest}
 use Rattle.laws.proofs.Sequences.{AllTrailing, joined, sequences-after, sequences-border, sequences-joined}
 use Rattle.laws.proofs.FormLaws.{Laws}
-
--- the units before an offset, the nearest first
-abbrev pub unitsBefore : ℕ → List ℕ → List ℕ
-unitsBefore zero s = []
-unitsBefore (suc p) s = getD s p 0 ∷ unitsBefore p s
-
--- at most n of them
-abbrev pub nearest : ℕ → ℕ → List ℕ → List ℕ
-nearest n p s = take n (unitsBefore p s)
 
 -- behind a unit with this role and j trailing ones: a lead takes them if it asks as many; d is the distance that the units before tell
 abbrev pub distanceAt : Role → ℕ → ℕ → ℕ

@@ -1,5 +1,5 @@
 -- "Each is given exactly then": which outcome a strict conversion has, and when.
-use Prim.Native.Nat.{ℕ, zero, suc, _+_, _≤_, _<_}
+use Prim.Native.Nat.{ℕ, _+_, _≤_, _<_}
 use mathlib.Core.Path.{_≡_, refl, sym, ap, _∙_}
 use mathlib.Core.Logic.{_≢_, _↔_, _⊎_, inl, inr}
 use mathlib.Core.Bool.{Bool, true, false, cond}
@@ -17,28 +17,9 @@ use Rattle.types.specs.declared.Item.{Item}
 use Rattle.types.specs.declared.Refusal.{Refusal}
 use Rattle.forms.specs.Fault.{numberOf, limit, refusal}
 use Rattle.forms.specs.Form.{Role, lead, trailing, invalid, Sequence, size, Form, sequences, Content, character, mark, overlong, carried, fullContent, contentAs, content, span, withSpan, itemsFrom, items}
+use Rattle.laws.specs.Exactness.{AllHeld, encodings, FirstFault, OwnFault, Exact, ExactLength}
 use Rattle.laws.proofs.Outcomes.{outcomes-differ, refused-same, converted-same}
-use Rattle.forms.specs.Conversion.{Outcome, converted, refused, encoding, refusalAt, prepend, put, convertItems, outcome, inRoom, strict}
-
--- every item is a character that the target holds
-abbrev pub AllHeld : Form → List Item → Type 0
-AllHeld G [] = Unit {0}
-AllHeld G (i ∷ is) = (encoding G i ≢ []) × AllHeld G is
-
--- and these are their encodings, one behind the other
-abbrev pub encodings : Form → List Item → List ℕ
-encodings G [] = []
-encodings G (i ∷ is) = encoding G i ++ encodings G is
-
--- the first item that is a mark or a character that the target cannot hold; r is its fault and place
-pub record FirstFault (G : Form) (is : List Item) (r : Refusal) : Type 0 where
-  pub before : List Item
-  pub item : Item
-  pub after : List Item
-  pub parts : is ≡ before ++ (item ∷ after)
-  pub earlier : AllHeld G before
-  pub unheld : encoding G item ≡ []
-  pub given : r ≡ refusalAt item
+use Rattle.forms.specs.Conversion.{converted, refused, encoding, refusalAt, prepend, put, convertItems, outcome, inRoom, strict}
 
 module _ (G : Form) where
   all-held : (is : List Item) → AllHeld G is → convertItems G is ≡ converted (encodings G is)
@@ -98,10 +79,7 @@ module _ (G : Form) where
           let e : r ≡ f .0 = refused-same (sym h ∙ first-fault is (f .1 .before) (f .1 .item) (f .1 .after) (f .1 .parts) (f .1 .earlier) (f .1 .unheld) ∙ ap refused (sym (f .1 .given))) in
           rw e (f .1)
 
--- a form's own faults are neither 1 nor 7, which belong to a whole call
-abbrev pub OwnFault : Fault → Type 0
-OwnFault f = (f ≢ SourceTooLong) × (f ≢ BufferTooShort)
-
+-- the faults of the values that a form does not carry are its own
 abbrev pub OwnFaults : Form → Type 0
 OwnFaults F = (v : ℕ) (f : Fault) → F .excluded v ≡ some f → OwnFault f
 
@@ -151,17 +129,6 @@ module _ (F : Form) (own : OwnFaults F) where
   first-own G s r f =
       let a : AllOwn (f .before ++ (f .item ∷ f .after)) = rw (f .parts) at (all-own 0 (sequences F s)) in
       rw (f .given) (own-in (f .before) (f .item) (f .after) a)
-
--- when each answer is given: 1; then the fault of the first item that has one, with its place; then 7; and otherwise the result
-pub record Exact (F G : Form) (s : List ℕ) (n : ℕ) : Type 0 where
-  pub fault-1 : (p : ℕ) → strict F G s n ≡ refused (refusal SourceTooLong p) ↔ ((limit < length s) × (p ≡ 0))
-  pub item-fault : (r : Refusal) → OwnFault (r .fault) → strict F G s n ≡ refused r ↔ ((length s ≤ limit) × FirstFault G (items F s) r)
-  pub fault-7 :
-      (p : ℕ) → strict F G s n ≡ refused (refusal BufferTooShort p)
-      ↔ ((length s ≤ limit) × AllHeld G (items F s) × (n < length (encodings G (items F s))) × (p ≡ 0))
-  pub result :
-      (es : List ℕ) → strict F G s n ≡ converted es
-      ↔ ((length s ≤ limit) × AllHeld G (items F s) × (length (encodings G (items F s)) ≤ n) × (es ≡ encodings G (items F s)))
 
 module _ (F G : Form) (own : OwnFaults F) (s : List ℕ) (n : ℕ) where
   abbrev is : List Item
@@ -240,13 +207,6 @@ module _ (F G : Form) (own : OwnFaults F) (s : List ℕ) (n : ℕ) where
         fault-7 = λ p. (fault-7-when p case, (λ w. short (w .0) (w .1) (w .2) ∙ ap (λ (q : ℕ). refused (refusal BufferTooShort q)) (sym (w .3))));
         result = λ es. (result-when es case, (λ w. fitting (w .0) (w .1) (w .2) ∙ ap converted (sym (w .3))));
       }
-
--- the measure: the same without 7
-pub record ExactLength (F G : Form) (s : List ℕ) : Type 0 where
-  pub fault-1 : (p : ℕ) → outcome F G s ≡ refused (refusal SourceTooLong p) ↔ ((limit < length s) × (p ≡ 0))
-  pub item-fault : (r : Refusal) → OwnFault (r .fault) → outcome F G s ≡ refused r ↔ ((length s ≤ limit) × FirstFault G (items F s) r)
-  pub no-fault-7 : (p : ℕ) → outcome F G s ≡ refused (refusal BufferTooShort p) → ⊥
-  pub result : (es : List ℕ) → outcome F G s ≡ converted es ↔ ((length s ≤ limit) × AllHeld G (items F s) × (es ≡ encodings G (items F s)))
 
 module _ (F G : Form) (own : OwnFaults F) (s : List ℕ) where
   abbrev all : ℕ

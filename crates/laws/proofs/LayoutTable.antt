@@ -1,23 +1,19 @@
 -- The layout table says which units lead and which values are spelled by each number of units; and no sequence of a value is shorter than its shortest.
-use Prim.Native.Nat.{ℕ, zero, suc, _+_, _-_, _≤_, _<_}
-use mathlib.Core.Path.{_≡_, refl, sym, ap, _∙_}
-use mathlib.Core.Logic.{_↔_, _⊎_, inl, inr}
+use Prim.Native.Nat.{ℕ, zero, suc, _≤_, _<_}
+use mathlib.Core.Path.{_≡_, ap, _∙_}
+use mathlib.Core.Logic.{_⊎_, inl, inr}
 use mathlib.Core.Bool.{true}
-use mathlib.Core.List.{List, [], _∷_}
+use mathlib.Core.List.{[]}
 use native.Mathlib.Omega.{arith}
 use native.Mathlib.Decide.{decLt}
 use lib.ListN.{length}
-use Rattle.forms.specs.Form.{Role, lead, Sequence, units, size, Form}
-use Rattle.forms.specs.Layout.{Layout, roleOf, rowAt, valueOf, rowLimit, lowestOf, formOf}
-use Rattle.forms.specs.LayoutTable.{TableRow, tableRowOf}
+use Rattle.forms.specs.Form.{Sequence, units, size}
+use Rattle.forms.specs.Layout.{Layout, valueOf, rowLimit, lowestOf, formOf}
+use Rattle.forms.specs.LayoutTable.{tableRowOf}
+use Rattle.laws.specs.LayoutTable.{Says}
 use Rattle.laws.proofs.Sequences.{Full}
 use Rattle.laws.proofs.LayoutLaws.{Fit, Spelling, spelling, spelling-below, length-shortest, full-spelling, not-shorter, same-length, in-row, at-least}
 use Rattle.laws.proofs.AscendingRows.{ascending, ascending-fits, leads-of-row, limits-rise}
-
--- what a row of the table says of k trailing units
-pub record Says (L : Layout) (k : ℕ) (r : TableRow) : Type 0 where
-  pub leads : (u : ℕ) → roleOf L u ≡ lead k ↔ ((r .firstLead ≤ u) × (u ≤ r .lastLead))
-  pub values : (v : ℕ) → length (formOf L .shortest v) ≡ suc k ↔ ((r .lowest ≤ v) × (v ≤ r .highest))
 
 module _ (L : Layout) (ok : ascending L ≡ true) (k : ℕ) (h : k < length (L .rows)) where
   abbrev fits : Fit L

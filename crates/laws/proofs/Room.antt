@@ -1,29 +1,29 @@
 -- Document 01, "Room": how many units the result of an accepted text has at most.
-use Prim.Native.Nat.{ℕ, zero, suc, _+_, _-_, _*_, _/_, _≤_, _<_}
-use mathlib.Core.Path.{_≡_, refl, sym, ap, _∙_}
+use Prim.Native.Nat.{ℕ, zero, suc, _*_, _≤_, _<_}
+use mathlib.Core.Path.{_≡_, refl, ap, _∙_}
 use mathlib.Core.Logic.{_≢_, _⊎_, inl, inr}
-use mathlib.Core.Bool.{Bool, true, false, _&&_, _||_}
-use mathlib.Core.List.{List, [], _∷_, _++_, map}
+use mathlib.Core.Bool.{Bool, true, false, _||_}
+use mathlib.Core.List.{List, [], _∷_, map}
 use mathlib.Core.Option.{Option, none, some}
 use native.Mathlib.Omega.{arith}
-use native.Mathlib.Nat.{mul-add, add-mul, le-div-iff-mul-le}
+use native.Mathlib.Nat.{mul-add, add-mul}
 use lib.Dec.{leb}
 use borrow.Author.Tests.{leb-true}
 use lib.ListN.{length, length-append, length-map}
 use Rattle.types.specs.declared.Fault.{Fault}
-use Rattle.types.specs.declared.Conversion.{Conversion}
 use Rattle.types.specs.declared.Conversion.the-variants.{Units}
 use Rattle.forms.specs.Form.{Form, unless, encode, encodeAll, AllEncodable}
 use Rattle.forms.specs.Layout.{Layout, rowLimit, lowestOf, formOf}
 use Rattle.forms.specs.Exchange.{i8Of, ebcdicOf}
 use Rattle.forms.specs.Forms.{byteLayout, utf16Layout, ucs4Layout, fssUtf, i8, utfEbcdic, utf16, ucs4}
-use Rattle.forms.specs.Conversion.{Outcome, converted, refused, outcome, answerOf, Converts}
+use Rattle.forms.specs.Conversion.{Outcome, converted, refused, outcome, answerOf}
+use Rattle.laws.specs.Room.{Room}
 use Rattle.laws.proofs.Table.{allBelow, below}
 use Rattle.laws.proofs.FormLaws.{Laws}
 use Rattle.laws.proofs.LayoutLaws.{Fit, Spelling, spelling, length-shortest}
 use Rattle.laws.proofs.Exchanged.{encode-from}
 use Rattle.laws.proofs.FourForms.{fssUtf-fits, i8-fits, utf16-fits, ucs4-fits}
-use Rattle.laws.proofs.Characters.{Accepted, accepted}
+use Rattle.laws.proofs.Characters.{accepted}
 use Rattle.laws.proofs.Answers.{within-items, measured-too}
 
 -- the values that a form writes with so many units lie in that row of its layout
@@ -79,11 +79,6 @@ boundTest a b L M j k = leb (suc k * b) (a * suc j) || (leb (rowLimit L j) (lowe
 
 abbrev pub boundTests : ℕ → ℕ → Layout → Layout → Bool
 boundTests a b L M = allBelow (length (L .rows)) (λ j. allBelow (length (M .rows)) (boundTest a b L M j))
-
--- the result has at most so many units
-pub record Room (F G : Form) (most : ℕ → ℕ) : Type 0 where
-  pub measured : (s : List ℕ) (n : ℕ) → answerOf (outcome F G s) ≡ Units n → n ≤ most (length s)
-  pub written : (s d : List ℕ) (n : ℕ) (o : List ℕ) → Converts F G s d (Units n) o → n ≤ most (length s)
 
 module _ (F G : Form) (source : Laws F) (L M : Layout) (reads : Writes F L) (writes : Writes G M) (a b : ℕ) (test : boundTests a b L M ≡ true) where
   or-cases : (x y : Bool) → (x || y) ≡ true → (x ≡ true) ⊎ (y ≡ true)

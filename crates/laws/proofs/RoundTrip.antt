@@ -1,17 +1,16 @@
 -- There and back: what a text is converted to is converted back to the text, over any two forms that keep the laws.
 use Prim.Native.Nat.{ℕ, _≤_}
-use mathlib.Core.Path.{_≡_, refl, sym, ap, _∙_}
-use mathlib.Core.List.{List, _++_}
+use mathlib.Core.Path.{_≡_, sym, ap, _∙_}
+use mathlib.Core.List.{List}
 use native.Mathlib.Omega.{arith}
 use borrow.Author.Tests.{le-ltb}
-use lib.ListN.{length, take, drop}
-use Rattle.types.specs.declared.Conversion.{Conversion}
-use Rattle.types.specs.declared.Conversion.the-variants.{Units}
+use lib.ListN.{length, take}
 use Rattle.forms.specs.Fault.{limit}
 use Rattle.forms.specs.Form.{Form, items}
-use Rattle.forms.specs.Conversion.{Outcome, converted, convertItems, inRoom, strict, answerOf, cellsOf, Converts}
+use Rattle.forms.specs.Conversion.{Outcome, converted, convertItems, inRoom, strict, answerOf, cellsOf}
+use Rattle.laws.specs.RoundTrip.{RoundTrip}
 use Rattle.laws.proofs.FormLaws.{Laws}
-use Rattle.laws.proofs.Characters.{Accepted, accepted, characters-accepted}
+use Rattle.laws.proofs.Characters.{accepted, characters-accepted}
 use Rattle.laws.proofs.Answers.{within-items, converts-units}
 
 pub there-and-back : (F G : Form) → Laws F → Laws G → (s es : List ℕ) → convertItems G (items F s) ≡ converted es → convertItems F (items G es) ≡ converted s
@@ -20,13 +19,6 @@ there-and-back F G source target s es h =
     ap (λ (x : List ℕ). convertItems F (items G x)) (a .result)
     ∙ characters-accepted G target F (a .values) (a .to) (a .from)
     ∙ ap converted (sym (a .source))
-
--- of the calls: the front of the first result buffer, where it is short enough to be read again and the room suffices, comes back as the text
-abbrev pub RoundTrip : Form → Form → Type 0
-RoundTrip F G =
-    (s d : List ℕ) (n : ℕ) (o : List ℕ) → Converts F G s d (Units n) o → n ≤ limit
-    → (b : List ℕ) (r : Conversion) (p : List ℕ) → Converts G F (take n o) b r p → length s ≤ length b
-    → (r ≡ Units (length s)) × (p ≡ s ++ drop (length s) b)
 
 pub round-trip : (F G : Form) → Laws F → Laws G → RoundTrip F G
 round-trip F G source target s d n o c short b r p back room =

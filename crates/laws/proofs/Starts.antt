@@ -1,7 +1,6 @@
 -- The start of an item: which item covers an offset, how far back it starts, and what a caller of a start finder has.
 use Prim.Native.Nat.{ℕ, suc, _+_, _-_, _≤_, _<_}
 use mathlib.Core.Path.{_≡_, refl, sym, ap, _∙_}
-use mathlib.Core.Logic.{_↔_}
 use mathlib.Core.Bool.{Bool, true, false, cond}
 use mathlib.Core.List.{List, [], _∷_, _++_}
 use mathlib.Core.Option.{Option, none, some}
@@ -19,19 +18,12 @@ use Rattle.forms.specs.Fault.{limit, refusal}
 use Rattle.forms.specs.Form.{Sequence, size, Form, sequences, spanOf, itemOf, itemsFrom, items}
 use Rattle.forms.specs.Forms.{fssUtf, utfEbcdic, utf16, ucs4}
 use Rattle.forms.specs.Start.{endOf, covering, startOf, itemStart}
+use Rattle.laws.specs.Starts.{unitsBefore, nearest, Covers, SameNear, Finds}
 use Rattle.laws.proofs.Sequences.{joined, sequences-joined}
 use Rattle.laws.proofs.Spans.{item-span}
 use Rattle.laws.proofs.FormLaws.{Laws}
 use Rattle.laws.proofs.FourForms.{fssUtf-laws, utfEbcdic-laws, utf16-laws, ucs4-laws}
-use Rattle.laws.proofs.Distances.{unitsBefore, nearest, distanceBack, distanceIn, distance-is, distance-take, distance-near}
-
--- an item of a reading covers an offset
-pub record Covers (is : List Item) (p : ℕ) (i : Item) : Type 0 where
-  pub before : List Item
-  pub after : List Item
-  pub among : is ≡ before ++ (i ∷ after)
-  pub from : (spanOf i) .offset ≤ p
-  pub to : p < endOf i
+use Rattle.laws.proofs.Distances.{distanceBack, distanceIn, distance-is, distance-take, distance-near}
 
 -- it is the one that the rules name, and starts so far back
 pub record Found (is : List Item) (p d : ℕ) : Type 0 where
@@ -137,27 +129,6 @@ pub start-near :
 start-near F laws s p d w h e =
     let q : d ≡ distanceBack F 0 (unitsBefore (suc p) s) = e ∙ distance-take F laws (unitsBefore (suc p) s) 0 (F .longest) (omega arith) in
     (omega (arith, found F s p h .start), rw q (sym (start-inside F s p w h)))
-
--- two places with the same unit and the same units before it, as many as the longest item reaches back, or the same smaller number of them
-pub record SameNear (F : Form) (s : List ℕ) (p : ℕ) (t : List ℕ) (q : ℕ) : Type 0 where
-  pub unit : getD s p 0 ≡ getD t q 0
-  pub before : nearest (F .longest - 1) p s ≡ nearest (F .longest - 1) q t
-
--- what a caller of a start finder has
-pub record Finds (F : Form) : Type 0 where
-  -- each offset inside a text is covered by one item, and no other offset by any
-  pub inside : (s : List ℕ) (p : ℕ) → p < length s → (i : Item) × (covering (items F s) p ≡ some i)
-  pub beyond : (s : List ℕ) (p : ℕ) → (covering (items F s) p ≡ none) ↔ (length s ≤ p)
-  pub covers : (s : List ℕ) (p : ℕ) (i : Item) → (covering (items F s) p ≡ some i) ↔ Covers (items F s) p i
-  -- it starts less than the longest item back
-  pub near : (s : List ℕ) (p : ℕ) (i : Item) → covering (items F s) p ≡ some i → p - (spanOf i) .offset < F .longest
-  -- as far as the nearest units tell
-  pub local :
-      (s t : List ℕ) (p q : ℕ) (i j : Item) → covering (items F s) p ≡ some i → covering (items F t) q ≡ some j → SameNear F s p t q
-      → p - (spanOf i) .offset ≡ q - (spanOf j) .offset
-  -- a start that is answered is that item's
-  pub answer : (s : List ℕ) (p a : ℕ) → itemStart F s p ≡ At a → (i : Item) × (covering (items F s) p ≡ some i) × (a ≡ (spanOf i) .offset)
-  pub local-answer : (s t : List ℕ) (p q a b : ℕ) → itemStart F s p ≡ At a → itemStart F t q ≡ At b → SameNear F s p t q → p - a ≡ q - b
 
 same-item : (o : Option Item) (i j : Item) → o ≡ some i → o ≡ some j → i ≡ j
 same-item o i j e f = cc

@@ -17,7 +17,8 @@ use Rattle.laws.proofs.FormLaws.{Laws}
 use Rattle.laws.proofs.Digits.{IsDigit}
 use Rattle.laws.proofs.LayoutLaws.{not-trailing, in-row}
 use Rattle.laws.proofs.FourForms.{utf16-fits, utf16-laws, ucs4-laws, high-unit, low-unit}
-use Rattle.laws.proofs.Distances.{unitsBefore, nearest, distanceAt, distanceBack}
+use Rattle.laws.specs.Starts.{unitsBefore, nearest}
+use Rattle.laws.proofs.Distances.{distanceAt, distanceBack}
 use Rattle.laws.proofs.Starts.{start-near}
 
 -- a unit that does not trail starts its item, and so does one before which nothing tells

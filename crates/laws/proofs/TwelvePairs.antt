@@ -2,41 +2,27 @@
 use Prim.Native.Nat.{ℕ, _*_, _/_, _≤_}
 use mathlib.Core.Path.{_≡_, refl}
 use mathlib.Core.Bool.{Bool, true, false, cond, _||_}
-use mathlib.Core.List.{List}
 use mathlib.Core.Option.{none, some}
 use native.Mathlib.Omega.{arith}
 use native.Mathlib.Nat.{le-div-iff-mul-le}
 use lib.Dec.{ltb}
 use borrow.Author.Tests.{le-ltb}
-use lib.ListN.{length, take}
+use lib.ListN.{length}
 use Rattle.types.specs.declared.Fault.{Fault}
 use Rattle.types.specs.declared.Fault.the-variants.{Unrepresentable, ValueTooLarge}
-use Rattle.types.specs.declared.Conversion.the-variants.{Units}
 use Rattle.forms.specs.Fault.{limit}
-use Rattle.forms.specs.Form.{Form, encodeAll, AllEncodable}
+use Rattle.forms.specs.Form.{Form, encodeAll}
 use Rattle.forms.specs.Layout.{Layout}
 use Rattle.forms.specs.Forms.{byteLayout, isSurrogate, utf16Layout, ucs4Layout, fssUtf, utfEbcdic, utf16, ucs4}
-use Rattle.forms.specs.Conversion.{converted, outcome, Converts}
+use Rattle.laws.specs.Exactness.{OwnFault}
+use Rattle.laws.specs.TwelvePairs.{Pair}
 use Rattle.laws.proofs.FormLaws.{Laws}
-use Rattle.laws.proofs.Characters.{Accepted, accepted, characters-accepted}
+use Rattle.laws.proofs.Characters.{accepted, characters-accepted}
 use Rattle.laws.proofs.Answers.{within-items, converts-units}
 use Rattle.laws.proofs.FourForms.{fssUtf-laws, utfEbcdic-laws, utf16-laws, ucs4-laws}
-use Rattle.laws.proofs.Exactness.{OwnFault, OwnFaults, other-number, Exact, exact, ExactLength, exact-length}
-use Rattle.laws.proofs.RoundTrip.{RoundTrip, round-trip}
-use Rattle.laws.proofs.Room.{Writes, fssUtf-writes, utfEbcdic-writes, utf16-writes, ucs4-writes, boundTests, Room, room}
-
-pub record Pair (F G : Form) (most : ℕ → ℕ) : Type 0 where
-  -- each answer is given exactly when document 01 says so
-  pub answers : (s : List ℕ) (n : ℕ) → Exact F G s n
-  pub lengths : (s : List ℕ) → ExactLength F G s
-  -- what is read are legal encodings, and what is written the legal encodings of the same values
-  pub characters : (s d : List ℕ) (n : ℕ) (o : List ℕ) → Converts F G s d (Units n) o → Accepted F G s (take n o)
-  -- and every text of values that both forms have encodings of is accepted
-  pub accepts : (vs : List ℕ) → AllEncodable F vs → AllEncodable G vs → length (encodeAll F vs) ≤ limit → outcome F G (encodeAll F vs) ≡ converted (encodeAll G vs)
-  -- an accepted text of n units has a result of at most so many
-  pub room : Room F G most
-  -- and comes back from the other form as it was
-  pub back : RoundTrip F G
+use Rattle.laws.proofs.Exactness.{OwnFaults, other-number, exact, exact-length}
+use Rattle.laws.proofs.RoundTrip.{round-trip}
+use Rattle.laws.proofs.Room.{Writes, fssUtf-writes, utfEbcdic-writes, utf16-writes, ucs4-writes, boundTests, room}
 
 -- a supplied form, with what the laws ask of it
 record Supplied (F : Form) (L : Layout) : Type 0 where

@@ -1,7 +1,7 @@
 -- When a lossy decoding gives each of its answers.
 use Prim.Native.Nat.{ℕ, _≤_, _<_}
 use mathlib.Core.Path.{_≡_, sym, ap, _∙_}
-use mathlib.Core.Logic.{_↔_, _⊎_, inl, inr}
+use mathlib.Core.Logic.{_⊎_, inl, inr}
 use mathlib.Core.List.{List}
 use native.Mathlib.Omega.{arith}
 use native.Mathlib.Decide.{decLt}
@@ -13,18 +13,8 @@ use Rattle.types.specs.declared.Refusal.{Refusal}
 use Rattle.forms.specs.Fault.{numberOf, limit, refusal}
 use Rattle.forms.specs.Form.{Form, items}
 use Rattle.forms.specs.Lossy.{decoded, refused, lossy}
+use Rattle.demand3.specs.ExactLossy.{ExactLossy}
 use Rattle.demand3.proofs.LossyCalls.{lossy-over, lossy-short-values, lossy-short-starts, lossy-all}
-
--- 1, then 7 where either buffer is short, and no other refusal
-pub record ExactLossy (F : Form) (s : List ℕ) (m n : ℕ) : Type 0 where
-  pub fault-1 : (p : ℕ) → lossy F s m n ≡ refused (refusal SourceTooLong p) ↔ ((limit < length s) × (p ≡ 0))
-  pub fault-7 :
-      (p : ℕ) → lossy F s m n ≡ refused (refusal BufferTooShort p)
-      ↔ ((length s ≤ limit) × ((m < length (items F s)) ⊎ (n < length (items F s))) × (p ≡ 0))
-  pub no-other : (r : Refusal) → lossy F s m n ≡ refused r → (r ≡ refusal SourceTooLong 0) ⊎ (r ≡ refusal BufferTooShort 0)
-  pub result :
-      (is : List Item) → lossy F s m n ≡ decoded is
-      ↔ ((length s ≤ limit) × (length (items F s) ≤ m) × (length (items F s) ≤ n) × (is ≡ items F s))
 
 differ : {A : Type 0} {is : List Item} {r : Refusal} → refused r ≡ decoded is → A
 differ e = absurd (let z : _≡_ {A = ℕ} 0 1 = cc in omega arith)
