@@ -13,7 +13,8 @@ use Rattle.types.specs.declared.Item.the-variants.{Character}
 use Rattle.forms.specs.Form.{Sequence, sequence, units, size, Form, sequences, Content, character, mark, content, span, itemsFrom, items, encode, encodeAll, AllEncodable, OccursAt}
 use Rattle.forms.specs.Lossy.{markValue, valueOf, offsetOf, marks}
 use Rattle.demand3.specs.Demand3.{startsFrom, Given, Under, Outside, UnderOneMark, Parts}
-use Rattle.laws.proofs.Sequences.{NoTrailingFirst, AllTrailing, joined, sequences-border, sequences-full, sequences-joined}
+use Rattle.laws.specs.LayoutTable.{AllTrailing}
+use Rattle.laws.proofs.Sequences.{NoTrailingFirst, joined, sequences-border, sequences-full, sequences-joined}
 use Rattle.laws.proofs.FormLaws.{Reads, Laws}
 use Rattle.laws.proofs.Items.{length-items}
 use Rattle.laws.proofs.Marks.{marks-append}

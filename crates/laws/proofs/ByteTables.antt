@@ -12,18 +12,13 @@ use Rattle.forms.specs.Layout.{Row, Layout, formOf}
 use Rattle.forms.specs.LayoutTable.{TableRow, fssUtfTable, i8Table, tableRowsOf, tableOf}
 use Rattle.forms.specs.Exchange.{i8Of, ebcdicOf}
 use Rattle.forms.specs.Forms.{byteLayout, fssUtf, i8, utfEbcdic}
-use Rattle.laws.proofs.Sequences.{Full}
+use Rattle.laws.specs.LayoutTable.{Full, Says, EachRow, SaysExchanged, OnlyShortest}
 use Rattle.laws.proofs.LayoutLaws.{Fit, laws}
 use Rattle.laws.proofs.AscendingRows.{ascending, limit-positive}
-use Rattle.laws.proofs.LayoutTable.{Says, table-says, shortest-least, shortest-only}
+use Rattle.laws.proofs.LayoutTable.{table-says, shortest-least, shortest-only}
 use Rattle.laws.proofs.Exchanged.{exchangedSequence, full-to, units-again}
 use Rattle.laws.proofs.ExchangeTable.{there, again}
 use Rattle.laws.proofs.FourForms.{fssUtf-fits, i8-fits}
-
--- each row of a table, the first for k trailing bytes
-abbrev pub EachRow : (ℕ → TableRow → Type 0) → ℕ → List TableRow → Type 0
-EachRow P k [] = Unit {0}
-EachRow P k (r ∷ rs) = P k r × EachRow P (suc k) rs
 
 module _ (L : Layout) (ok : ascending L ≡ true) where
   rows-say : (k : ℕ) (rs : List Row) → k + length rs ≡ length (L .rows) → EachRow (Says L) k (tableRowsOf L k rs)
@@ -41,11 +36,6 @@ fssUtf-says = each-row-says (byteLayout 6 6) refl
 pub i8-says : EachRow (Says (byteLayout 5 7)) 0 i8Table
 i8-says = each-row-says (byteLayout 5 7) refl
 
--- UTF-EBCDIC: the leads are those whose I8 byte the row has
-pub record SaysExchanged (k : ℕ) (r : TableRow) : Type 0 where
-  pub leads : (b : ℕ) → utfEbcdic .role b ≡ lead k ↔ ((r .firstLead ≤ i8Of b) × (i8Of b ≤ r .lastLead))
-  pub values : (v : ℕ) → length (utfEbcdic .shortest v) ≡ suc k ↔ ((r .lowest ≤ v) × (v ≤ r .highest))
-
 rows-exchanged : (k : ℕ) (rs : List TableRow) → EachRow (Says (byteLayout 5 7)) k rs → EachRow SaysExchanged k rs
 rows-exchanged k [] a = tt
 rows-exchanged k (r ∷ rs) a =
@@ -53,11 +43,6 @@ rows-exchanged k (r ∷ rs) a =
 
 pub utfEbcdic-says : EachRow SaysExchanged 0 i8Table
 utfEbcdic-says = rows-exchanged 0 i8Table i8-says
-
--- "Only the shortest sequence is legal": no full sequence is shorter than the shortest of its value, and one as long is it
-pub record OnlyShortest (F : Form) : Type 0 where
-  pub least : (c : Sequence) → Full F c → length (F .shortest (F .value c)) ≤ size c
-  pub only : (c : Sequence) → Full F c → length (F .shortest (F .value c)) ≡ size c → F .shortest (F .value c) ≡ units c
 
 only-shortest : (L : Layout) → Fit L → OnlyShortest (formOf L)
 only-shortest L fits = record { least = shortest-least L fits; only = shortest-only L fits }

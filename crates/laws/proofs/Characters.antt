@@ -16,7 +16,8 @@ use Rattle.types.specs.declared.Refusal.{Refusal}
 use Rattle.forms.specs.Form.{Role, lead, trailing, invalid, Sequence, sequence, units, size, Form, asked, firstOf, sequencesAfter, sequences, Content, character, mark, fullContent, contentAs, content, span, withSpan, itemOf, itemsFrom, items, encode, encodeAll, AllEncodable}
 use Rattle.forms.specs.Conversion.{Outcome, converted, refused, refusalAt, prepend, put, convertItems}
 use Rattle.laws.specs.TwelvePairs.{Accepted}
-use Rattle.laws.proofs.Sequences.{AllTrailing, joined, taken-trailing, sequences-full, sequences-joined}
+use Rattle.laws.specs.LayoutTable.{AllTrailing}
+use Rattle.laws.proofs.Sequences.{joined, taken-trailing, sequences-full, sequences-joined}
 use Rattle.laws.proofs.FormLaws.{Reads, Laws}
 
 -- the characters of values, one behind the other from p on

@@ -12,7 +12,8 @@ use lib.ListN.{length, getD, take, drop, length-append, length-drop, take-append
 use lib.Seq.{drop-cons, drop-append-le, length-take-le, take-all, getD-take, getD-drop}
 use Rattle.forms.specs.Form.{Role, lead, trailing, invalid, Sequence, size, Form, asked, isTrailing, taken, sequences}
 use Rattle.laws.specs.Starts.{unitsBefore, nearest}
-use Rattle.laws.proofs.Sequences.{AllTrailing, joined, sequences-after, sequences-border, sequences-joined}
+use Rattle.laws.specs.LayoutTable.{AllTrailing}
+use Rattle.laws.proofs.Sequences.{joined, sequences-after, sequences-border, sequences-joined}
 use Rattle.laws.proofs.FormLaws.{Laws}
 
 -- behind a unit with this role and j trailing ones: a lead takes them if it asks as many; d is the distance that the units before tell

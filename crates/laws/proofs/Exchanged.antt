@@ -12,7 +12,8 @@ use Rattle.types.specs.declared.Fault.{Fault}
 use Rattle.types.specs.declared.Item.{Item}
 use Rattle.forms.specs.Form.{Role, lead, trailing, invalid, Sequence, sequence, units, size, Form, asked, isTrailing, taken, firstOf, sequencesAfter, sequences, Content, character, mark, isShorter, overlong, carried, fullContent, contentAs, content, withSpan, span, itemOf, itemsFrom, items, unless, encode}
 use Rattle.forms.specs.Layout.{exchanged}
-use Rattle.laws.proofs.Sequences.{Full, AllTrailing, same-units}
+use Rattle.laws.specs.LayoutTable.{Full, AllTrailing}
+use Rattle.laws.proofs.Sequences.{same-units}
 use Rattle.laws.proofs.FormLaws.{Reads, Laws}
 
 -- a sequence, each unit exchanged

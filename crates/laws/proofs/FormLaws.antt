@@ -6,7 +6,7 @@ use mathlib.Core.List.{[]}
 use mathlib.Core.Option.{none}
 use lib.ListN.{length}
 use Rattle.forms.specs.Form.{Role, lead, Sequence, units, Form, Content, character, fullContent, encode}
-use Rattle.laws.proofs.Sequences.{Full}
+use Rattle.laws.specs.LayoutTable.{Full}
 
 -- a full sequence with the content of a character
 pub record Reads (F : Form) (c : Sequence) (v : ℕ) : Type 0 where

@@ -14,7 +14,8 @@ use lib.ListN.{length, getD}
 use Rattle.types.specs.declared.Fault.{Fault}
 use Rattle.forms.specs.Form.{Role, lead, trailing, invalid, Sequence, sequence, units, Form, isTrailing, Content, character, mark, isShorter, overlong, carried, fullContent, unless, encode}
 use Rattle.forms.specs.Layout.{Row, row, Layout, leadIn, roleOf, rowAt, number, valueOf, limitOf, rowLimit, lowestOf, digits, spelled, shortestIn, formOf}
-use Rattle.laws.proofs.Sequences.{Full, AllTrailing, same-units}
+use Rattle.laws.specs.LayoutTable.{Full, AllTrailing}
+use Rattle.laws.proofs.Sequences.{same-units}
 use Rattle.laws.proofs.FormLaws.{Reads, Laws}
 use Rattle.laws.proofs.Digits.{IsDigit, AllDigits, digit-lt, number-lt, quotient, remainder, digits-number, length-digits, number-digits, digits-all}
 use Rattle.laws.proofs.Rows.{trails, trails-true, trails-in, trailing-lead, LeadRow, lead-row, no-trailing-row, SpellingRow, spelling-row, spelled-below}

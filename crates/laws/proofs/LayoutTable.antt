@@ -10,8 +10,7 @@ use lib.ListN.{length}
 use Rattle.forms.specs.Form.{Sequence, units, size}
 use Rattle.forms.specs.Layout.{Layout, valueOf, rowLimit, lowestOf, formOf}
 use Rattle.forms.specs.LayoutTable.{tableRowOf}
-use Rattle.laws.specs.LayoutTable.{Says}
-use Rattle.laws.proofs.Sequences.{Full}
+use Rattle.laws.specs.LayoutTable.{Says, Full}
 use Rattle.laws.proofs.LayoutLaws.{Fit, Spelling, spelling, spelling-below, length-shortest, full-spelling, not-shorter, same-length, in-row, at-least}
 use Rattle.laws.proofs.AscendingRows.{ascending, ascending-fits, leads-of-row, limits-rise}
 

@@ -14,7 +14,8 @@ use Rattle.types.specs.declared.Item.{Item}
 use Rattle.types.specs.declared.Item.the-variants.{Character, Mark}
 use Rattle.forms.specs.Form.{Role, lead, Sequence, sequence, size, Form, asked, taken, firstOf, Content, character, mark, content, span, withSpan, itemOf}
 use Rattle.forms.specs.Layout.{Layout, roleOf, rowAt, number, valueOf, lowestOf, formOf}
-use Rattle.laws.proofs.Sequences.{Full, taken-all, taken-trailing, taken-full}
+use Rattle.laws.specs.LayoutTable.{Full}
+use Rattle.laws.proofs.Sequences.{taken-all, taken-trailing, taken-full}
 use Rattle.laws.proofs.Digits.{IsDigit, AllDigits}
 use Rattle.laws.proofs.Rows.{lead-injective}
 use Rattle.laws.proofs.LayoutLaws.{Fit, fine, all-trailing, all-digits, value-small}

@@ -14,7 +14,8 @@ use Rattle.types.specs.declared.Item.{Item}
 use Rattle.types.specs.declared.Item.the-variants.{Character, Mark}
 use Rattle.forms.specs.Form.{Role, lead, trailing, invalid, Sequence, sequence, Form, taken, firstOf, overlong, fullContent, span, withSpan, itemOf}
 use Rattle.forms.specs.Layout.{Layout, valueOf, rowLimit, lowestOf, formOf}
-use Rattle.laws.proofs.Sequences.{Full, taken-trailing}
+use Rattle.laws.specs.LayoutTable.{Full}
+use Rattle.laws.proofs.Sequences.{taken-trailing}
 use Rattle.laws.proofs.LayoutLaws.{Fit, overlong-lowest}
 
 module _ (F : Form) (p u : ℕ) (us : List ℕ) where

@@ -7,6 +7,7 @@ use native.Mathlib.Omega.{arith}
 use native.Mathlib.Nat.{not-suc-le-zero, le-of-suc-le-suc}
 use lib.ListN.{length, drop, take, length-append}
 use Rattle.forms.specs.Form.{Role, lead, trailing, invalid, Sequence, sequence, units, size, Form, asked, isTrailing, taken, firstOf, sequencesAfter, sequences}
+use Rattle.laws.specs.LayoutTable.{AllTrailing, Full}
 
 pub same-units : (a b : Sequence) → units a ≡ units b → a ≡ b
 same-units a b e =
@@ -18,15 +19,6 @@ same-units a b e =
 abbrev pub NoTrailingFirst : Form → List ℕ → Type 0
 NoTrailingFirst F [] = Unit {0}
 NoTrailingFirst F (u ∷ us) = isTrailing (F .role u) ≡ false
-
-abbrev pub AllTrailing : Form → List ℕ → Type 0
-AllTrailing F [] = Unit {0}
-AllTrailing F (u ∷ us) = (F .role u ≡ trailing) × AllTrailing F us
-
--- a lead with just the trailing units that it asks
-pub record Full (F : Form) (c : Sequence) : Type 0 where
-  pub leads : F .role (c .first) ≡ lead (length (c .rest))
-  pub trail : AllTrailing F (c .rest)
 
 -- the units of sequences, joined
 abbrev pub joined : List Sequence → List ℕ
