@@ -7,7 +7,8 @@ ghost use mathlib.Core.Path.{_≡_};
 ghost use Prim.Native.Nat.{_-_};
 ghost use lib.ListN.{length};
 ghost use Rattle.forms.specs.Start.{itemStart};
-ghost use Rattle.laws.proofs.Distances.{unitsBefore, distanceBack};
+ghost use Rattle.laws.specs.Starts.{unitsBefore};
+ghost use Rattle.laws.proofs.Distances.{distanceBack};
 ghost use Rattle.tables.specs.ByteForms.{byteForm};
 
 // How many bytes the form's longest item has.

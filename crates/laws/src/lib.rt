@@ -1,1 +1,2 @@
-// What follows from the rules for every form: laws of the definitions of `forms`, in `proofs/`. It has no code of its own.
+// What follows from the rules for every form: in `specs/` what a caller has besides the contracts, in `proofs/` the laws of the definitions of
+// `forms`. It has no code of its own.
