@@ -1,5 +1,9 @@
 /* Jiskromet: a text converter between FSS-UTF, UTF-EBCDIC, UTF-16 and UCS-4 whose every function is proved.
  *
+ * FSS-UTF is X/Open's of 1993, with values up to 7FFFFFFF; today's UTF-8 can be lent as it. UTF-EBCDIC is the draft of
+ * Unicode Technical Report #16 of January 1999. The later report places 97 of the 256 bytes otherwise, and a host that
+ * follows it misreads every letter outside ASCII: the degree sign is 47 BF here, and 80 57 there.
+ *
  * A text is lent as a pointer and a number of code units, a result buffer as a pointer and a number of cells; with 0 of
  * them the pointer may be anything. A result buffer must not overlap the text. No call writes to a lent text, keeps a
  * pointer, allocates, or relies on the caller having tested the text. */

@@ -1,6 +1,11 @@
 //! Proved conversion between FSS-UTF (rack controllers), UTF-EBCDIC (EBCDIC
 //! hosts), UTF-16 (display panels) and UCS-4 (the gateway).
 //!
+//! FSS-UTF is X/Open's of 1993, with values up to 7FFFFFFF; today's UTF-8 can be
+//! lent as it. UTF-EBCDIC is the draft of Unicode Technical Report #16 of January
+//! 1999, and **not** the later report: see [`utf_ebcdic`] before you send a host
+//! its first letter outside ASCII.
+//!
 //! Safe calls of `libjiskromet.a`, in a module for each form that a text can
 //! come in: [`fss_utf`], [`utf_ebcdic`], [`utf16`], [`ucs4`].
 //!
@@ -76,9 +81,8 @@
 //!   refused. A result may be longer, and can then not be read again.
 //! - Offsets and lengths are in code units: bytes in FSS-UTF and UTF-EBCDIC,
 //!   `u16` in UTF-16, `u32` in UCS-4. Byte order plays no part.
-//! - FSS-UTF is the 1993 form: values to 7FFFFFFF in up to six bytes, D800 to
-//!   DFFF among them. Every `str` is good FSS-UTF, but not every FSS-UTF text a
-//!   `str`.
+//! - Every `str` is good FSS-UTF, but not every FSS-UTF text a `str`: it has D800
+//!   to DFFF and all up to 7FFFFFFF besides.
 //! - The archive is for x86-64 Linux.
 
 #![deny(missing_docs)]

@@ -1,8 +1,19 @@
-//! Texts in UTF-EBCDIC, as EBCDIC hosts take them: bytes, one to seven for each
-//! value from 0 to 7FFFFFFF.
+//! Texts in UTF-EBCDIC of the draft Unicode Technical Report #16 (January 1999),
+//! as EBCDIC hosts take them: bytes, one to seven for each value from 0 to
+//! 7FFFFFFF.
 //!
 //! Letters, digits and controls are single bytes at their EBCDIC places: A is C1,
 //! 0 is F0.
+//!
+//! The later report places 97 of the 256 bytes otherwise: line feed and next line,
+//! and 95 of the 96 leads and trailing bytes. A host that follows it misreads
+//! every letter outside ASCII, and line ends. One text tells:
+//!
+//! ```
+//! let host = jiskromet::fss_utf::to_utf_ebcdic_vec("°\n".as_bytes())?;
+//! assert_eq!(host, [0x47, 0xBF, 0x25]); // by the later report: 80 57 15
+//! # Ok::<(), jiskromet::Refusal>(())
+//! ```
 //!
 //! ```
 //! use jiskromet::{ucs4, utf_ebcdic, Fault, Refusal};
