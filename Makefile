@@ -2,6 +2,7 @@
 .PHONY: listing test check library bench install
 
 PREFIX ?= /usr/local
+version := $(shell sed -n 's/^.define JK_VERSION "\(.*\)"/\1/p' include/jiskromet.h)
 
 # Proves and builds the listing program, and lists a text with damage in it.
 listing:
@@ -31,6 +32,6 @@ install: library
 	install -d $(DESTDIR)$(PREFIX)/lib/pkgconfig $(DESTDIR)$(PREFIX)/include $(DESTDIR)$(PREFIX)/bin
 	install -m 644 target/staticlib/libjiskromet.a $(DESTDIR)$(PREFIX)/lib/libjiskromet.a
 	install -m 644 include/jiskromet.h $(DESTDIR)$(PREFIX)/include/jiskromet.h
-	sed 's|@PREFIX@|$(PREFIX)|' jiskromet.pc.in > $(DESTDIR)$(PREFIX)/lib/pkgconfig/jiskromet.pc
+	sed 's|@PREFIX@|$(PREFIX)|; s|@VERSION@|$(version)|' jiskromet.pc.in > $(DESTDIR)$(PREFIX)/lib/pkgconfig/jiskromet.pc
 	chmod 644 $(DESTDIR)$(PREFIX)/lib/pkgconfig/jiskromet.pc
 	install -m 755 target/bin/listing $(DESTDIR)$(PREFIX)/bin/jiskromet-listing

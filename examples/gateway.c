@@ -10,13 +10,16 @@
 #include "jiskromet.h"
 
 /* One byte more than a conversion takes: a line too long is refused by fault 1. */
-enum { LONGEST_LINE = 65537 };
+enum { LONGEST_LINE = JK_MAX_UNITS + 1 };
+
+/* The number of cells of an array. */
+#define CELLS(array) (sizeof array / sizeof array[0])
 
 static uint8_t line[LONGEST_LINE];
-static uint8_t host[3 * LONGEST_LINE / 2];
-static uint16_t panel[LONGEST_LINE];
-static uint32_t values[LONGEST_LINE];
-static uint32_t starts[LONGEST_LINE];
+static uint8_t host[JK_FSS_UTF_TO_UTF_EBCDIC_ROOM(LONGEST_LINE)];
+static uint16_t panel[JK_FSS_UTF_TO_UTF16_ROOM(LONGEST_LINE)];
+static uint32_t values[JK_MAX_UNITS];
+static uint32_t starts[JK_MAX_UNITS];
 
 /* Reads a line without its line feed, and passes over what does not fit. Returns 0 at the end of the input. */
 static int read_line(size_t *length) {
@@ -28,25 +31,13 @@ static int read_line(size_t *length) {
     return 1;
 }
 
-static const char *words(uint32_t fault) {
-    switch (fault) {
-    case JK_SOURCE_TOO_LONG: return "the line has more than 65,536 bytes";
-    case JK_MISSING_TRAILING: return "a character is cut short";
-    case JK_STRAY_TRAILING: return "a piece of a character stands alone";
-    case JK_INVALID_UNIT: return "no character has this byte";
-    case JK_OVERLONG: return "a character is spelled too long";
-    case JK_UNREPRESENTABLE: return "the panel cannot hold this character";
-    default: return "refused";
-    }
-}
-
 static void print_fault(const char *who, jk_conversion answer) {
-    printf("  %s: fault %u at byte %lu, %s\n", who, (unsigned)answer.fault, (unsigned long)answer.offset, words(answer.fault));
+    printf("  %s: fault %u at byte %lu, %s\n", who, (unsigned)answer.fault, (unsigned long)answer.offset, jk_fault_text(answer.fault));
 }
 
 /* What is left of a damaged line: characters as they are, or as their value outside ASCII; each mark with its place. */
 static void show(size_t length) {
-    jk_decoding answer = jk_fss_utf_decode_lossy(line, length, values, LONGEST_LINE, starts, LONGEST_LINE);
+    jk_decoding answer = jk_fss_utf_decode_lossy(line, length, values, CELLS(values), starts, CELLS(starts));
     if (answer.fault != JK_NO_FAULT) return; /* fault 1: nothing is read */
     printf("  shown: ");
     for (uint64_t i = 0; i < answer.items; i++) {
@@ -62,7 +53,7 @@ int main(void) {
     for (unsigned long number = 1; read_line(&length); number++) {
         printf("line %lu, %lu bytes\n", number, (unsigned long)length);
 
-        jk_conversion to_host = jk_fss_utf_to_utf_ebcdic(line, length, host, sizeof host);
+        jk_conversion to_host = jk_fss_utf_to_utf_ebcdic(line, length, host, CELLS(host));
         if (to_host.fault == JK_NO_FAULT) {
             printf("  host:");
             for (uint64_t i = 0; i < to_host.units; i++) printf(" %02X", (unsigned)host[i]);
@@ -71,7 +62,7 @@ int main(void) {
             print_fault("host", to_host);
         }
 
-        jk_conversion to_panel = jk_fss_utf_to_utf16(line, length, panel, LONGEST_LINE);
+        jk_conversion to_panel = jk_fss_utf_to_utf16(line, length, panel, CELLS(panel));
         if (to_panel.fault == JK_NO_FAULT) {
             printf("  panel:");
             for (uint64_t i = 0; i < to_panel.units; i++) printf(" %04X", (unsigned)panel[i]);

@@ -5,8 +5,10 @@
  * follows it misreads every letter outside ASCII: the degree sign is 47 BF here, and 80 57 there.
  *
  * A text is lent as a pointer and a number of code units, a result buffer as a pointer and a number of cells; with 0 of
- * them the pointer may be anything. A result buffer must not overlap the text. No call writes to a lent text, keeps a
- * pointer, allocates, or relies on the caller having tested the text. */
+ * them the pointer may be anything. Pointers are aligned as their types ask: units that came as bytes are copied into an
+ * array of uint16_t or uint32_t first. A result buffer overlaps neither the text nor another result buffer. No call
+ * writes to a lent text, keeps a pointer, allocates, or relies on the caller having tested the text. Calls share
+ * nothing: any thread may make any call at any time. */
 #ifndef JISKROMET_H
 #define JISKROMET_H
 
@@ -17,19 +19,48 @@
 extern "C" {
 #endif
 
-/* Fault numbers. */
+/* The version of this header, and of the library beside it. */
+#define JK_VERSION "0.1.0"
+
+/* How many code units a text may have. A result may be longer, and can then not be read again. */
+#define JK_MAX_UNITS 65536
+
+/* How many code units the longest item of each form has. */
+#define JK_FSS_UTF_LONGEST_ITEM 6
+#define JK_UTF_EBCDIC_LONGEST_ITEM 7
+#define JK_UTF16_LONGEST_ITEM 2
+#define JK_UCS4_LONGEST_ITEM 1
+
+/* Fault numbers; jk_fault_text says what each means. */
 enum jk_fault {
     JK_NO_FAULT = 0,
-    JK_SOURCE_TOO_LONG = 1,     /* the source has more than 65,536 code units */
-    JK_MISSING_TRAILING = 2,    /* a lead has too few trailing units, the text's end included */
-    JK_STRAY_TRAILING = 3,      /* a trailing unit that no lead takes */
-    JK_INVALID_UNIT = 4,        /* FSS-UTF FE or FF; a UCS-4 unit of 80000000 or more */
-    JK_OVERLONG = 5,            /* the sequence is longer than its value needs */
-    JK_UNREPRESENTABLE = 6,     /* the target cannot hold the value */
-    JK_BUFFER_TOO_SHORT = 7,    /* a lent result buffer is too short for the whole result */
-    JK_VALUE_TOO_LARGE = 8,     /* a byte form gives a value above 7FFFFFFF */
-    JK_OFFSET_OUT_OF_RANGE = 9  /* the asked offset lies beyond the text */
+    JK_SOURCE_TOO_LONG = 1,
+    JK_MISSING_TRAILING = 2,   /* the text's end included */
+    JK_STRAY_TRAILING = 3,
+    JK_INVALID_UNIT = 4,       /* FSS-UTF FE or FF; a UCS-4 unit of 80000000 or more */
+    JK_OVERLONG = 5,
+    JK_UNREPRESENTABLE = 6,    /* UTF-16 for D800 to DFFF and above 10FFFF */
+    JK_BUFFER_TOO_SHORT = 7,
+    JK_VALUE_TOO_LARGE = 8,    /* no text gives it */
+    JK_OFFSET_OUT_OF_RANGE = 9
 };
+
+/* A fault in words, for a log or a panel. */
+static inline const char *jk_fault_text(uint32_t fault) {
+    switch (fault) {
+    case JK_NO_FAULT: return "no fault";
+    case JK_SOURCE_TOO_LONG: return "the text has more than 65,536 code units";
+    case JK_MISSING_TRAILING: return "a lead has too few trailing units";
+    case JK_STRAY_TRAILING: return "a trailing unit stands where no lead takes it";
+    case JK_INVALID_UNIT: return "a code unit has no meaning in its form";
+    case JK_OVERLONG: return "a sequence is longer than its value needs";
+    case JK_UNREPRESENTABLE: return "the target form cannot hold the value";
+    case JK_BUFFER_TOO_SHORT: return "a result buffer is too short for the whole result";
+    case JK_VALUE_TOO_LARGE: return "a value is above 7FFFFFFF";
+    case JK_OFFSET_OUT_OF_RANGE: return "the asked offset lies beyond the text";
+    default: return "a fault that this header does not know";
+    }
+}
 
 /* What stands at an offset. */
 enum jk_item_kind {
@@ -62,54 +93,69 @@ typedef struct jk_conversion {
 
 /* Strict conversion. jk_F_to_G writes the text in the other form to the front of dst and leaves its rest untouched;
  * jk_F_to_G_length tells how many code units that takes, and gives no fault 7. A refusal (1; else the fault at the
- * lowest offset, 2 to 6 or 8; else 7) leaves all of dst as it was. A text of n code units that is not refused takes at
- * most the cells noted beside each pair. */
+ * lowest offset, 2 to 6 or 8; else 7) leaves all of dst as it was.
+ *
+ * JK_F_TO_G_ROOM(n) is the most code units that a text of n can take. It is a constant where n is one, it evaluates n
+ * more than once, and from JK_MAX_UNITS on it stays the same, since longer texts are refused. */
+#define JK_CAPPED(n) ((size_t)(n) < JK_MAX_UNITS ? (size_t)(n) : JK_MAX_UNITS)
 
-/* FSS-UTF to UTF-EBCDIC: at most 3 * n / 2. */
+/* FSS-UTF to UTF-EBCDIC. */
+#define JK_FSS_UTF_TO_UTF_EBCDIC_ROOM(n) (3 * JK_CAPPED(n) / 2)
 jk_conversion jk_fss_utf_to_utf_ebcdic(const uint8_t *src, size_t src_len, uint8_t *dst, size_t dst_len);
 jk_conversion jk_fss_utf_to_utf_ebcdic_length(const uint8_t *src, size_t src_len);
 
-/* FSS-UTF to UTF-16: at most n. */
+/* FSS-UTF to UTF-16. */
+#define JK_FSS_UTF_TO_UTF16_ROOM(n) JK_CAPPED(n)
 jk_conversion jk_fss_utf_to_utf16(const uint8_t *src, size_t src_len, uint16_t *dst, size_t dst_len);
 jk_conversion jk_fss_utf_to_utf16_length(const uint8_t *src, size_t src_len);
 
-/* FSS-UTF to UCS-4: at most n. */
+/* FSS-UTF to UCS-4. */
+#define JK_FSS_UTF_TO_UCS4_ROOM(n) JK_CAPPED(n)
 jk_conversion jk_fss_utf_to_ucs4(const uint8_t *src, size_t src_len, uint32_t *dst, size_t dst_len);
 jk_conversion jk_fss_utf_to_ucs4_length(const uint8_t *src, size_t src_len);
 
-/* UTF-EBCDIC to FSS-UTF: at most 2 * n. */
+/* UTF-EBCDIC to FSS-UTF. */
+#define JK_UTF_EBCDIC_TO_FSS_UTF_ROOM(n) (2 * JK_CAPPED(n))
 jk_conversion jk_utf_ebcdic_to_fss_utf(const uint8_t *src, size_t src_len, uint8_t *dst, size_t dst_len);
 jk_conversion jk_utf_ebcdic_to_fss_utf_length(const uint8_t *src, size_t src_len);
 
-/* UTF-EBCDIC to UTF-16: at most n. */
+/* UTF-EBCDIC to UTF-16. */
+#define JK_UTF_EBCDIC_TO_UTF16_ROOM(n) JK_CAPPED(n)
 jk_conversion jk_utf_ebcdic_to_utf16(const uint8_t *src, size_t src_len, uint16_t *dst, size_t dst_len);
 jk_conversion jk_utf_ebcdic_to_utf16_length(const uint8_t *src, size_t src_len);
 
-/* UTF-EBCDIC to UCS-4: at most n. */
+/* UTF-EBCDIC to UCS-4. */
+#define JK_UTF_EBCDIC_TO_UCS4_ROOM(n) JK_CAPPED(n)
 jk_conversion jk_utf_ebcdic_to_ucs4(const uint8_t *src, size_t src_len, uint32_t *dst, size_t dst_len);
 jk_conversion jk_utf_ebcdic_to_ucs4_length(const uint8_t *src, size_t src_len);
 
-/* UTF-16 to FSS-UTF: at most 3 * n. */
+/* UTF-16 to FSS-UTF. */
+#define JK_UTF16_TO_FSS_UTF_ROOM(n) (3 * JK_CAPPED(n))
 jk_conversion jk_utf16_to_fss_utf(const uint16_t *src, size_t src_len, uint8_t *dst, size_t dst_len);
 jk_conversion jk_utf16_to_fss_utf_length(const uint16_t *src, size_t src_len);
 
-/* UTF-16 to UTF-EBCDIC: at most 4 * n. */
+/* UTF-16 to UTF-EBCDIC. */
+#define JK_UTF16_TO_UTF_EBCDIC_ROOM(n) (4 * JK_CAPPED(n))
 jk_conversion jk_utf16_to_utf_ebcdic(const uint16_t *src, size_t src_len, uint8_t *dst, size_t dst_len);
 jk_conversion jk_utf16_to_utf_ebcdic_length(const uint16_t *src, size_t src_len);
 
-/* UTF-16 to UCS-4: at most n. */
+/* UTF-16 to UCS-4. */
+#define JK_UTF16_TO_UCS4_ROOM(n) JK_CAPPED(n)
 jk_conversion jk_utf16_to_ucs4(const uint16_t *src, size_t src_len, uint32_t *dst, size_t dst_len);
 jk_conversion jk_utf16_to_ucs4_length(const uint16_t *src, size_t src_len);
 
-/* UCS-4 to FSS-UTF: at most 6 * n. */
+/* UCS-4 to FSS-UTF. */
+#define JK_UCS4_TO_FSS_UTF_ROOM(n) (6 * JK_CAPPED(n))
 jk_conversion jk_ucs4_to_fss_utf(const uint32_t *src, size_t src_len, uint8_t *dst, size_t dst_len);
 jk_conversion jk_ucs4_to_fss_utf_length(const uint32_t *src, size_t src_len);
 
-/* UCS-4 to UTF-EBCDIC: at most 7 * n. */
+/* UCS-4 to UTF-EBCDIC. */
+#define JK_UCS4_TO_UTF_EBCDIC_ROOM(n) (7 * JK_CAPPED(n))
 jk_conversion jk_ucs4_to_utf_ebcdic(const uint32_t *src, size_t src_len, uint8_t *dst, size_t dst_len);
 jk_conversion jk_ucs4_to_utf_ebcdic_length(const uint32_t *src, size_t src_len);
 
-/* UCS-4 to UTF-16: at most 2 * n. */
+/* UCS-4 to UTF-16. */
+#define JK_UCS4_TO_UTF16_ROOM(n) (2 * JK_CAPPED(n))
 jk_conversion jk_ucs4_to_utf16(const uint32_t *src, size_t src_len, uint16_t *dst, size_t dst_len);
 jk_conversion jk_ucs4_to_utf16_length(const uint32_t *src, size_t src_len);
 

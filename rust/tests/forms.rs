@@ -556,6 +556,27 @@ fn items_meet_in_the_middle() {
     assert_eq!(items.next(), None);
 }
 
+/// The C header beside this package.
+const HEADER: &str = include_str!("../../include/jiskromet.h");
+
+#[test]
+fn numbers_are_the_headers() {
+    for (name, value) in [
+        ("MAX_UNITS", MAX_UNITS),
+        ("FSS_UTF_LONGEST_ITEM", fss_utf::LONGEST_ITEM),
+        ("UTF_EBCDIC_LONGEST_ITEM", utf_ebcdic::LONGEST_ITEM),
+        ("UTF16_LONGEST_ITEM", utf16::LONGEST_ITEM),
+        ("UCS4_LONGEST_ITEM", ucs4::LONGEST_ITEM),
+    ] {
+        assert!(
+            HEADER.contains(&format!("#define JK_{name} {value}\n")),
+            "{name}"
+        );
+    }
+    let version = env!("CARGO_PKG_VERSION");
+    assert!(HEADER.contains(&format!("#define JK_VERSION \"{version}\"\n")));
+}
+
 #[test]
 fn faults_have_their_numbers_and_words() {
     let faults = [
@@ -572,7 +593,7 @@ fn faults_have_their_numbers_and_words() {
     for (number, fault) in (1..).zip(faults) {
         assert_eq!(fault.number(), number);
         assert_eq!(Fault::from_number(number), Some(fault));
-        assert!(!fault.to_string().is_empty());
+        assert!(HEADER.contains(&format!(": return \"{fault}\";")));
     }
     for number in [0, 10, u32::MAX] {
         assert_eq!(Fault::from_number(number), None);

@@ -1,0 +1,68 @@
+/* Holds the header's numbers to what the calls do, and prints the number of each fault that it has words for. C99 and C++11. */
+#include <stdio.h>
+#include <string.h>
+
+#include "jiskromet.h"
+
+static int wrong = 0;
+
+static void expect(int right, const char *what) {
+    if (right) return;
+    fprintf(stderr, "tests/header.c: %s\n", what);
+    wrong = 1;
+}
+
+/* Texts that take the most room, and one that is too long by one. */
+static const uint8_t ascii[] = {0x41, 0x42};
+static const uint8_t two_bytes[] = {0xDF, 0xBF, 0xDF, 0xBF};
+static const uint8_t control[] = {0x20, 0x20, 0x20}; /* 80 in UTF-EBCDIC */
+static const uint16_t last_unit[] = {0xFFFF, 0xFFFF};
+static const uint32_t last_value[] = {0x7FFFFFFF};
+static const uint32_t pair[] = {0x10000, 0x10FFFF};
+static const uint8_t zeros[JK_MAX_UNITS + 1] = {0};
+
+/* A room is a constant, and its argument any expression. */
+static uint8_t host[JK_UCS4_TO_UTF_EBCDIC_ROOM(1 + 1)];
+
+#define COUNT(text) (sizeof text / sizeof text[0])
+#define ROOM(text, call, PAIR) \
+    expect(jk_##call##_length(text, COUNT(text)).units == JK_##PAIR##_ROOM(COUNT(text)), #PAIR "_ROOM is not what the text takes"); \
+    expect(JK_##PAIR##_ROOM((size_t)-1) == JK_##PAIR##_ROOM(JK_MAX_UNITS), #PAIR "_ROOM grows beyond JK_MAX_UNITS")
+
+static void rooms(void) {
+    ROOM(two_bytes, fss_utf_to_utf_ebcdic, FSS_UTF_TO_UTF_EBCDIC);
+    ROOM(ascii, fss_utf_to_utf16, FSS_UTF_TO_UTF16);
+    ROOM(ascii, fss_utf_to_ucs4, FSS_UTF_TO_UCS4);
+    ROOM(control, utf_ebcdic_to_fss_utf, UTF_EBCDIC_TO_FSS_UTF);
+    ROOM(control, utf_ebcdic_to_utf16, UTF_EBCDIC_TO_UTF16);
+    ROOM(control, utf_ebcdic_to_ucs4, UTF_EBCDIC_TO_UCS4);
+    ROOM(last_unit, utf16_to_fss_utf, UTF16_TO_FSS_UTF);
+    ROOM(last_unit, utf16_to_utf_ebcdic, UTF16_TO_UTF_EBCDIC);
+    ROOM(last_unit, utf16_to_ucs4, UTF16_TO_UCS4);
+    ROOM(last_value, ucs4_to_fss_utf, UCS4_TO_FSS_UTF);
+    ROOM(last_value, ucs4_to_utf_ebcdic, UCS4_TO_UTF_EBCDIC);
+    ROOM(pair, ucs4_to_utf16, UCS4_TO_UTF16);
+    expect(JK_FSS_UTF_TO_UTF_EBCDIC_ROOM(3) == 4, "a half is not rounded down");
+    expect(jk_ucs4_to_utf_ebcdic(last_value, COUNT(last_value), host, sizeof host).units == sizeof host / 2, "a sum is not taken whole");
+}
+
+static void limits(void) {
+    const uint8_t fss_utf[] = {0xFD, 0xBF, 0xBF, 0xBF, 0xBF, 0xBF};
+    const uint8_t utf_ebcdic[] = {0xE1, 0xFE, 0xFE, 0xFE, 0xFE, 0xFE, 0xFE};
+    const uint16_t utf16[] = {0xD800, 0xDC00};
+    expect(jk_fss_utf_item_at(fss_utf, COUNT(fss_utf), 0).length == JK_FSS_UTF_LONGEST_ITEM, "JK_FSS_UTF_LONGEST_ITEM");
+    expect(jk_utf_ebcdic_item_at(utf_ebcdic, COUNT(utf_ebcdic), 0).length == JK_UTF_EBCDIC_LONGEST_ITEM, "JK_UTF_EBCDIC_LONGEST_ITEM");
+    expect(jk_utf16_item_at(utf16, COUNT(utf16), 0).length == JK_UTF16_LONGEST_ITEM, "JK_UTF16_LONGEST_ITEM");
+    expect(jk_ucs4_item_at(last_value, COUNT(last_value), 0).length == JK_UCS4_LONGEST_ITEM, "JK_UCS4_LONGEST_ITEM");
+    expect(jk_fss_utf_to_ucs4_length(zeros, JK_MAX_UNITS).units == JK_MAX_UNITS, "JK_MAX_UNITS are not taken");
+    expect(jk_fss_utf_to_ucs4_length(zeros, JK_MAX_UNITS + 1).fault == JK_SOURCE_TOO_LONG, "more than JK_MAX_UNITS are taken");
+}
+
+int main(void) {
+    uint32_t number;
+    rooms();
+    limits();
+    for (number = 1; number < 1000; number++)
+        if (strcmp(jk_fault_text(number), jk_fault_text(0xFFFFFFFFu)) != 0) printf("%u\n", (unsigned)number);
+    return wrong;
+}
