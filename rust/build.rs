@@ -39,8 +39,10 @@ fn find(package: &Path) -> Result<PathBuf, String> {
             return Ok(folder);
         }
         return Err(format!(
-            "JISKROMET_LIB_DIR names {}, but there is no {ARCHIVE} in it.",
-            folder.display()
+            "JISKROMET_LIB_DIR names {}, but there is no {ARCHIVE} in it. (A relative folder counts \
+             from {}, not from where cargo was called.)",
+            folder.display(),
+            package.display()
         ));
     }
     let built = package.join("../target/staticlib");

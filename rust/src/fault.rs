@@ -99,6 +99,10 @@ impl fmt::Display for Fault {
 /// assert_eq!(refusal, Refusal { fault: Fault::Unrepresentable, offset: 1 });
 /// assert_eq!(refusal.to_string(), "fault 6 at offset 1: the target form cannot hold the value");
 /// assert_eq!(panel, [0xFFFF; 8]);
+///
+/// // A refusal that concerns no item prints no place.
+/// let refusal = ucs4::to_utf16(&[0x34; 9], &mut panel).unwrap_err();
+/// assert_eq!(refusal.to_string(), "fault 7: a result buffer is too short for the whole result");
 /// ```
 #[derive(Clone, Copy, Debug, PartialEq, Eq, Hash)]
 pub struct Refusal {
@@ -113,7 +117,12 @@ pub struct Refusal {
 impl fmt::Display for Refusal {
     fn fmt(&self, f: &mut fmt::Formatter<'_>) -> fmt::Result {
         let Refusal { fault, offset } = self;
-        write!(f, "fault {} at offset {offset}: {fault}", fault.number())
+        match fault {
+            Fault::SourceTooLong | Fault::BufferTooShort => {
+                write!(f, "fault {}: {fault}", fault.number())
+            }
+            _ => write!(f, "fault {} at offset {offset}: {fault}", fault.number()),
+        }
     }
 }
 

@@ -88,15 +88,24 @@ readers! {
     /// ```
     item_at = jk_fss_utf_item_at;
 
-    /// To cut a text for a line of 24 bytes, cut it where an item starts:
+    /// To cut a text for a line of 24 bytes, cut it where an item starts. A text
+    /// that fits is left as it is: no item covers its end, and to ask there is
+    /// [`Fault::OffsetOutOfRange`](crate::Fault::OffsetOutOfRange).
     ///
     /// ```
-    /// use jiskromet::fss_utf;
+    /// use jiskromet::{fss_utf, Refusal};
+    ///
+    /// fn cut(alarm: &[u8]) -> Result<&[u8], Refusal> {
+    ///     if alarm.len() <= 24 {
+    ///         return Ok(alarm);
+    ///     }
+    ///     Ok(&alarm[..fss_utf::item_start(alarm, 24)?])
+    /// }
     ///
     /// let alarm = "Verdampfer 2: Fühler −18 °C".as_bytes();
-    /// let cut = fss_utf::item_start(alarm, 24)?;
-    /// assert_eq!(&alarm[..cut], "Verdampfer 2: Fühler ".as_bytes());
-    /// # Ok::<(), jiskromet::Refusal>(())
+    /// assert_eq!(cut(alarm)?, "Verdampfer 2: Fühler ".as_bytes());
+    /// assert_eq!(cut(b"Pumpe 1 steht")?, b"Pumpe 1 steht");
+    /// # Ok::<(), Refusal>(())
     /// ```
     item_start = jk_fss_utf_item_start;
 

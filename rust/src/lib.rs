@@ -73,7 +73,9 @@
 //! The archive is taken from the folder that the environment variable
 //! `JISKROMET_LIB_DIR` names; without it from the repository's
 //! `target/staticlib`; failing that, from where `pkg-config` knows `jiskromet`.
-//! Nothing else is needed to link it.
+//! A relative folder in `JISKROMET_LIB_DIR` counts from this package's folder,
+//! where cargo runs its build, and not from where cargo is called. Nothing else
+//! is needed to link it.
 //!
 //! # Limits
 //!

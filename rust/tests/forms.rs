@@ -599,12 +599,19 @@ fn faults_have_their_numbers_and_words() {
         assert_eq!(Fault::from_number(number), None);
     }
 
-    let refusal: Box<dyn std::error::Error> = Box::new(Refusal {
-        fault: Fault::MissingTrailing,
-        offset: 4,
-    });
-    assert_eq!(
-        refusal.to_string(),
-        "fault 2 at offset 4: a lead has too few trailing units"
-    );
+    for (fault, offset, words) in [
+        (
+            Fault::MissingTrailing,
+            4,
+            "fault 2 at offset 4: a lead has too few trailing units",
+        ),
+        (
+            Fault::SourceTooLong,
+            0,
+            "fault 1: the text has more than 65,536 code units",
+        ),
+    ] {
+        let refusal: Box<dyn std::error::Error> = Box::new(Refusal { fault, offset });
+        assert_eq!(refusal.to_string(), words);
+    }
 }
