@@ -47,6 +47,7 @@ bench: library
 	@tests/needs cargo gcc size
 	cargo build --quiet --release --offline --manifest-path bench/Cargo.toml
 	./bench/target/release/bench
+	@echo "README's table:"; tests/speed
 
 # Installs the archive, the header, a pkg-config file and the listing program below PREFIX (with DESTDIR before it, for packagers).
 install: $(archive) $(program)
