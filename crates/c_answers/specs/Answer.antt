@@ -1,15 +1,14 @@
--- The numbers of an answer as C sees it: fault numbers, places and counts of document 01.
+-- The answers as C sees them: the numbers of `Answer` in `forms` and of `Step` in `reader`, each in its struct.
 use Prim.Native.Nat.{ℕ}
 use Rattle.types.specs.declared.Item.{Item}
 use Rattle.types.specs.declared.Item.the-variants.{Character, Mark}
 use Rattle.types.specs.declared.Refusal.{Refusal}
+use Rattle.types.specs.declared.Counts.{Counts}
 use Rattle.types.specs.declared.Conversion.{Conversion}
-use Rattle.types.specs.declared.Conversion.the-variants.{Units, Refused as NoUnits}
 use Rattle.types.specs.declared.Decoding.{Decoding}
-use Rattle.types.specs.declared.Decoding.the-variants.{Decoded, Refused as NotDecoded}
 use Rattle.types.specs.declared.Start.{Start}
-use Rattle.types.specs.declared.Start.the-variants.{At, Refused as NoStart}
-use Rattle.forms.specs.Fault.{numberOf}
+use Rattle.forms.specs.Answer.{Numbers, refusedBy, conversionNumbers, decodingNumbers, startNumbers, ItemValues, itemValues, itemNumbers}
+use Rattle.reader.specs.Step.{stepNumbers}
 use Rattle.reader.specs.declared.Step.{Step}
 use Rattle.reader.specs.declared.Step.the-variants.{Next, End, Refused}
 use Rattle.c_answers.specs.declared.JkItem.{JkItem}
@@ -20,41 +19,52 @@ use Rattle.c_answers.specs.declared.JkStart.{JkStart}
 abbrev pub jkItem : ℕ → ℕ → ℕ → ℕ → ℕ → JkItem
 jkItem k f v p n = record { kind = k; fault = f; value = v; offset = p; length = n }
 
+abbrev pub asItem : ℕ → Numbers ItemValues → JkItem
+asItem k n = jkItem k (n .fault) (n .values .value) (n .offset) (n .values .length)
+
 -- kind 1 is a character, 2 a mark
+abbrev pub itemKind : Item → ℕ
+itemKind (Character v p) = 1
+itemKind (Mark f p) = 2
+
+-- 0 is End, 3 a refusal
+abbrev pub stepKind : Step → ℕ
+stepKind (Next i c) = itemKind i
+stepKind (End c) = 0
+stepKind (Refused r) = 3
+
 abbrev pub shownItem : Item → JkItem
-shownItem (Character v p) = jkItem 1 0 v (p .offset) (p .length)
-shownItem (Mark f p) = jkItem 2 (numberOf f) 0 (p .offset) (p .length)
+shownItem i = asItem (itemKind i) (itemNumbers i)
 
--- kind 3 is a refusal, with zero for the length
 abbrev pub refusedItem : Refusal → JkItem
-refusedItem r = jkItem 3 (numberOf (r .fault)) 0 (r .offset) 0
+refusedItem r = asItem 3 (refusedBy (itemValues 0 0) r)
 
--- kind 0 is End
 abbrev pub itemAnswer : Step → JkItem
-itemAnswer (Next i c) = shownItem i
-itemAnswer (End c) = jkItem 0 0 0 (c .offset) 0
-itemAnswer (Refused r) = refusedItem r
+itemAnswer s = asItem (stepKind s) (stepNumbers s)
 
 abbrev pub jkConversion : ℕ → ℕ → ℕ → JkConversion
 jkConversion f p n = record { fault = f; offset = p; units = n }
 
--- a refusal has its number, its place and zero units
+abbrev pub asConversion : Numbers ℕ → JkConversion
+asConversion n = jkConversion (n .fault) (n .offset) (n .values)
+
 abbrev pub conversionAnswer : Conversion → JkConversion
-conversionAnswer (Units n) = jkConversion 0 0 n
-conversionAnswer (NoUnits r) = jkConversion (numberOf (r .fault)) (r .offset) 0
+conversionAnswer c = asConversion (conversionNumbers c)
 
 abbrev pub jkDecoding : ℕ → ℕ → ℕ → ℕ → JkDecoding
 jkDecoding f p n m = record { fault = f; offset = p; items = n; marks = m }
 
--- a refusal has its number, its place and zero for both counts
+abbrev pub asDecoding : Numbers Counts → JkDecoding
+asDecoding n = jkDecoding (n .fault) (n .offset) (n .values .items) (n .values .marks)
+
 abbrev pub decodingAnswer : Decoding → JkDecoding
-decodingAnswer (Decoded c) = jkDecoding 0 0 (c .items) (c .marks)
-decodingAnswer (NotDecoded r) = jkDecoding (numberOf (r .fault)) (r .offset) 0 0
+decodingAnswer d = asDecoding (decodingNumbers d)
 
 abbrev pub jkStart : ℕ → ℕ → ℕ → JkStart
 jkStart f p n = record { fault = f; offset = p; start = n }
 
--- a refusal has its number, its place and 0 for the start
+abbrev pub asStart : Numbers ℕ → JkStart
+asStart n = jkStart (n .fault) (n .offset) (n .values)
+
 abbrev pub startAnswer : Start → JkStart
-startAnswer (At n) = jkStart 0 0 n
-startAnswer (NoStart r) = jkStart (numberOf (r .fault)) (r .offset) 0
+startAnswer s = asStart (startNumbers s)

@@ -1,6 +1,6 @@
 -- What a lossy decoding promises follows from its answer and its cells: demand 3 among it.
 use Prim.Native.Nat.{ℕ, _+_, _≤_, _<_}
-use mathlib.Core.Path.{_≡_, refl, ap, _∙_}
+use mathlib.Core.Path.{_≡_, refl, sym, ap, _∙_}
 use mathlib.Core.Bool.{Bool, true, false, _||_}
 use mathlib.Core.List.{List, _++_, map}
 use borrow.Author.Tests.{le-ltb, lt-ltb}
@@ -12,7 +12,8 @@ use Rattle.types.specs.declared.Decoding.{Decoding}
 use Rattle.types.specs.declared.Decoding.the-variants.{Decoded}
 use Rattle.forms.specs.Fault.{limit, refusal}
 use Rattle.forms.specs.Form.{Form, items}
-use Rattle.forms.specs.Lossy.{valueOf, offsetOf, marks, Outcome, decoded, refused, lossy, counts, answerOf, valuesIn, startsIn}
+use Rattle.forms.specs.Answer.{decodingNumbers}
+use Rattle.forms.specs.Lossy.{valueOf, offsetOf, marks, Outcome, decoded, refused, lossy, counts, answerOf, outcomeNumbers, valuesIn, startsIn}
 use Rattle.demand3.specs.Demand3.{Parts, Demand3, DecodesLossy}
 use Rattle.laws.proofs.FormLaws.{Laws}
 use Rattle.demand3.proofs.ThreeParts.{three-count, three-marks, parts}
@@ -35,6 +36,10 @@ module _ (F : Form) (s : List ℕ) (m n : ℕ) where
 
   pub lossy-all : length s ≤ limit → length (items F s) ≤ m → length (items F s) ≤ n → lossy F s m n ≡ decoded (items F s)
   lossy-all h k l = rw (le-ltb limit (length s) h, le-ltb m (length (items F s)) k, le-ltb n (length (items F s)) l)
+
+answer-numbers : (x : Outcome) → decodingNumbers (answerOf x) ≡ outcomeNumbers x
+answer-numbers (decoded is) = refl
+answer-numbers (refused q) = refl
 
 module _ (F : Form) (laws : Laws F) (s d e : List ℕ) (r : Decoding) (o p : List ℕ)
     (answer : r ≡ answerOf (lossy F s (length d) (length e)))
@@ -67,4 +72,17 @@ module _ (F : Form) (laws : Laws F) (s d e : List ℕ) (r : Decoding) (o p : Lis
             (w ∙ ap (λ (c : ℕ). Decoded (counts c (marks is))) x ∙ ap (λ (c : ℕ). Decoded (counts n c)) y, rw (a, b) z, i, j)
 
     pub promise : DecodesLossy F s d e r o p
-    promise = record { answer = answer; values = values; starts = starts; demand3 = due }
+    promise =
+        record {
+          answer = answer;
+          numbers = ap decodingNumbers answer ∙ answer-numbers (lossy F s (length d) (length e));
+          values = values;
+          starts = starts;
+          demand3 = due;
+        }
+
+-- it settles the answer, its numbers, and every cell of both buffers
+pub settled :
+    (F : Form) (s d e : List ℕ) (q r : Decoding) (o p x y : List ℕ) → DecodesLossy F s d e q o p → DecodesLossy F s d e r x y
+    → (q ≡ r) × (decodingNumbers q ≡ decodingNumbers r) × (o ≡ x) × (p ≡ y)
+settled F s d e q r o p x y a b = (a .answer ∙ sym (b .answer), a .numbers ∙ sym (b .numbers), a .values ∙ sym (b .values), a .starts ∙ sym (b .starts))

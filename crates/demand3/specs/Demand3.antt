@@ -8,7 +8,8 @@ use Rattle.types.specs.declared.Decoding.{Decoding}
 use Rattle.types.specs.declared.Decoding.the-variants.{Decoded}
 use Rattle.forms.specs.Fault.{limit}
 use Rattle.forms.specs.Form.{Form, items, encode, encodeAll, AllEncodable, OccursAt}
-use Rattle.forms.specs.Lossy.{markValue, valueOf, offsetOf, marks, lossy, counts, answerOf, valuesIn, startsIn}
+use Rattle.forms.specs.Answer.{decodingNumbers}
+use Rattle.forms.specs.Lossy.{markValue, valueOf, offsetOf, marks, lossy, counts, answerOf, outcomeNumbers, valuesIn, startsIn}
 
 -- "the values of its good characters, in order, with their starts": the starts from p on
 abbrev pub startsFrom : Form → ℕ → List ℕ → List ℕ
@@ -62,9 +63,10 @@ Demand3 F s d e r o p =
     × (drop n o ≡ drop n d)
     × (drop n p ≡ drop n e)
 
--- what a lossy decoding promises: its answer, every cell of both buffers, and demand 3 of them
+-- what a lossy decoding promises: its answer, the numbers of it, every cell of both buffers, and demand 3 of them
 pub record DecodesLossy (F : Form) (s d e : List ℕ) (r : Decoding) (o p : List ℕ) : Type 0 where
   pub answer : r ≡ answerOf (lossy F s (length d) (length e))
+  pub numbers : decodingNumbers r ≡ outcomeNumbers (lossy F s (length d) (length e))
   pub values : o ≡ valuesIn (lossy F s (length d) (length e)) d
   pub starts : p ≡ startsIn (lossy F s (length d) (length e)) e
   pub demand3 : Demand3 F s d e r o p

@@ -15,6 +15,7 @@ use Rattle.types.specs.declared.Conversion.{Conversion}
 use Rattle.types.specs.declared.Conversion.the-variants.{Units, Refused}
 use Rattle.types.specs.declared.Start.{Start}
 use Rattle.forms.specs.Fault.{limit, refusal}
+use Rattle.forms.specs.Answer.{numbers, conversionNumbers, decodingNumbers, startNumbers, itemValues, itemNumbers}
 use Rattle.forms.specs.Form.{units, Form, sequences, span, spanOf, items, encode, encodeAll, AllEncodable, WellFormed, OccursAt}
 use Rattle.forms.specs.Layout.{formOf}
 use Rattle.forms.specs.Exchange.{ebcdicOf}
@@ -26,7 +27,7 @@ use Rattle.forms.specs.Lossy as Lossy
 use Rattle.forms.specs.Lossy.{lossy, counts, valuesIn, startsIn}
 use Rattle.forms.specs.Buffer.{withUnits, Holds}
 use Rattle.forms.specs.Conversion.{refused, refusalAt, convertItems, outcome, strict, answerOf, cellsOf, Measures, Converts}
-use Rattle.forms.specs.Start.{endOf, covering, startOf, itemStart}
+use Rattle.forms.specs.Start.{endOf, covering, startOf, itemStart, numbersAt, FindsStart}
 
 pub data Example : Type 0 where
   -- a value and its legal encoding, which is read as the value
@@ -165,13 +166,16 @@ conversions-hold = refl
 
 -- the promise of a measure, and of a converter for its answer and its buffer; the place of a character that the target cannot hold
 pub length-promise : Measures fssUtf utf16 (0x41 ∷ 0xC2 ∷ 0xA9 ∷ []) (Units 2)
-length-promise = record { answer = refl }
+length-promise = record { answer = refl; numbers = refl }
 
 pub promise : Converts fssUtf utf16 (0xC2 ∷ 0xA9 ∷ []) (7 ∷ 8 ∷ []) (Units 1) (0xA9 ∷ 8 ∷ [])
-promise = record { answer = refl; cells = refl }
+promise = record { answer = refl; numbers = refl; cells = refl }
 
 pub short-promise : Converts fssUtf utf16 (0x41 ∷ 0x42 ∷ []) (7 ∷ []) (Refused (refusal BufferTooShort 0)) (7 ∷ [])
-short-promise = record { answer = refl; cells = refl }
+short-promise = record { answer = refl; numbers = refl; cells = refl }
+
+pub unheld-promise : Converts fssUtf utf16 (0x41 ∷ 0xED ∷ 0xA0 ∷ 0x80 ∷ []) (7 ∷ []) (Refused (refusal Unrepresentable 1)) (7 ∷ [])
+unheld-promise = record { answer = refl; numbers = refl; cells = refl }
 
 pub unheld-place : refusalAt (Character 0xD800 (span 5 3)) ≡ refusal Unrepresentable 5
 unheld-place = refl
@@ -183,12 +187,17 @@ put-in = refl
 pub held : Holds (1 ∷ 2 ∷ 3 ∷ []) (7 ∷ []) 1 (7 ∷ 2 ∷ 3 ∷ [])
 held = record { counted = refl; cells = refl }
 
--- a promise settles the answer, and every cell of the buffer
-pub settled : (F G : Form) (s d o p : List ℕ) (q r : Conversion) → Converts F G s d q o → Converts F G s d r p → (q ≡ r) × (o ≡ p)
-settled F G s d o p q r a b = (a .answer ∙ sym (b .answer), a .cells ∙ sym (b .cells))
+-- a promise settles the answer, its numbers, and every cell of the buffer
+pub settled :
+    (F G : Form) (s d o p : List ℕ) (q r : Conversion) → Converts F G s d q o → Converts F G s d r p
+    → (q ≡ r) × (conversionNumbers q ≡ conversionNumbers r) × (o ≡ p)
+settled F G s d o p q r a b = (a .answer ∙ sym (b .answer), a .numbers ∙ sym (b .numbers), a .cells ∙ sym (b .cells))
 
-pub length-settled : (F G : Form) (s : List ℕ) (q r : Conversion) → Measures F G s q → Measures F G s r → q ≡ r
-length-settled F G s q r a b = a .answer ∙ sym (b .answer)
+pub length-settled : (F G : Form) (s : List ℕ) (q r : Conversion) → Measures F G s q → Measures F G s r → (q ≡ r) × (conversionNumbers q ≡ conversionNumbers r)
+length-settled F G s q r a b = (a .answer ∙ sym (b .answer), a .numbers ∙ sym (b .numbers))
+
+pub start-settled : (F : Form) (s : List ℕ) (p : ℕ) (q r : Start) → FindsStart F s p q → FindsStart F s p r → (q ≡ r) × (startNumbers q ≡ startNumbers r)
+start-settled F s p q r a b = (a .answer ∙ sym (b .answer), a .numbers ∙ sym (b .numbers))
 
 pub held-settled : (d e o p : List ℕ) (m n : ℕ) → Holds d e m o → Holds d e n p → (m ≡ n) × (o ≡ p)
 held-settled d e o p m n a b =
@@ -271,6 +280,31 @@ refused-buffers = refl
 pub decoded-over : (F : Form) (s : List ℕ) (m n : ℕ) → 65537 ≤ length s → Lossy.answerOf (lossy F s m n) ≡ Decoding.Refused (refusal SourceTooLong 0)
 decoded-over F s m n h = rw (lt-ltb limit (length s) h)
 
+-- the numbers of each case of an answer: of a result, and of a refusal
+pub named-numbers : ((numbers 5 7 (counts 3 1)) .fault ≡ 5) × ((numbers 5 7 (counts 3 1)) .offset ≡ 7) × ((numbers 5 7 (counts 3 1)) .values ≡ counts 3 1)
+named-numbers = (refl, refl, refl)
+
+pub conversion-numbers : map conversionNumbers (Units 3 ∷ Refused (refusal Overlong 7) ∷ []) ≡ numbers 0 0 3 ∷ numbers 5 7 0 ∷ []
+conversion-numbers = refl
+
+pub decoding-numbers :
+    map decodingNumbers (Decoded (counts 3 1) ∷ Decoding.Refused (refusal BufferTooShort 0) ∷ []) ≡ numbers 0 0 (counts 3 1) ∷ numbers 7 0 (counts 0 0) ∷ []
+decoding-numbers = refl
+
+pub decoded-numbers :
+    map (λ n. Lossy.outcomeNumbers (lossy fssUtf cut 3 n)) (2 ∷ 3 ∷ []) ≡ numbers 7 0 (counts 0 0) ∷ numbers 0 0 (counts 3 1) ∷ []
+decoded-numbers = refl
+
+pub start-numbers : map startNumbers (Start.At 4 ∷ Start.Refused (refusal OffsetOutOfRange 7) ∷ []) ≡ numbers 0 0 4 ∷ numbers 9 7 0 ∷ []
+start-numbers = refl
+
+pub item-numbers :
+    map itemNumbers (Character 0xA9 (span 1 2) ∷ Mark MissingTrailing (span 4 2) ∷ []) ≡ numbers 0 1 (itemValues 0xA9 2) ∷ numbers 2 4 (itemValues 0 2) ∷ []
+item-numbers = refl
+
+pub named-values : ((itemValues 0xA9 2) .value ≡ 0xA9) × ((itemValues 0xA9 2) .length ≡ 2)
+named-values = (refl, refl)
+
 -- characters one behind the other
 pub characters : encodeAll fssUtf (0x41 ∷ 0xA9 ∷ []) ≡ 0x41 ∷ 0xC2 ∷ 0xA9 ∷ []
 characters = refl
@@ -287,6 +321,12 @@ listed-item-starts = refl
 pub pair-starts : map (itemStart utf16 (0xD800 ∷ 0xD800 ∷ 0xDC00 ∷ [])) (0 ∷ 1 ∷ 2 ∷ []) ≡ Start.At 0 ∷ Start.At 1 ∷ Start.At 1 ∷ []
 pair-starts = refl
 
+pub start-promise : FindsStart fssUtf listing 5 (Start.At 4)
+start-promise = record { answer = refl; numbers = refl }
+
+pub beyond-promise : FindsStart fssUtf listing 7 (Start.Refused (refusal OffsetOutOfRange 7))
+beyond-promise = record { answer = refl; numbers = refl }
+
 -- the item itself, and the offset behind it
 pub covering-item : covering (items fssUtf listing) 5 ≡ some (Mark MissingTrailing (span 4 2))
 covering-item = refl
@@ -300,3 +340,6 @@ start-at-the-limit F s p h = rw (le-ltb limit (length s) h)
 
 pub start-above-the-limit : (F : Form) (s : List ℕ) (p : ℕ) → 65537 ≤ length s → itemStart F s p ≡ Start.Refused (refusal SourceTooLong 0)
 start-above-the-limit F s p h = rw (lt-ltb limit (length s) h)
+
+pub start-numbers-above-the-limit : (F : Form) (s : List ℕ) (p : ℕ) → 65537 ≤ length s → numbersAt F s p ≡ startNumbers (Start.Refused (refusal SourceTooLong 0))
+start-numbers-above-the-limit F s p h = rw (lt-ltb limit (length s) h)

@@ -12,6 +12,7 @@ use Rattle.types.specs.declared.Refusal.{Refusal}
 use Rattle.types.specs.declared.Conversion.{Conversion}
 use Rattle.types.specs.declared.Conversion.the-variants.{Units, Refused}
 use Rattle.forms.specs.Fault.{limit, refusal}
+use Rattle.forms.specs.Answer.{Numbers, returned, refusedBy, conversionNumbers}
 use Rattle.forms.specs.Form.{Form, items, encode}
 
 -- the units of the result, or the refusal
@@ -60,16 +61,23 @@ abbrev pub answerOf : Outcome → Conversion
 answerOf (converted es) = Units (length es)
 answerOf (refused r) = Refused r
 
+-- and the numbers of that answer: the units of the result, or the refusal's number, its place and zero units
+abbrev pub outcomeNumbers : Outcome → Numbers ℕ
+outcomeNumbers (converted es) = returned (length es)
+outcomeNumbers (refused r) = refusedBy 0 r
+
 -- what a call leaves in the result buffer: the units at its front and its rest untouched, or all as it was
 abbrev pub cellsOf : Outcome → List ℕ → List ℕ
 cellsOf (converted es) d = es ++ drop (length es) d
 cellsOf (refused r) d = d
 
--- what a measure promises: its answer r
+-- what a measure promises: its answer r, and the numbers of it
 pub record Measures (F G : Form) (s : List ℕ) (r : Conversion) : Type 0 where
   pub answer : r ≡ answerOf (outcome F G s)
+  pub numbers : conversionNumbers r ≡ outcomeNumbers (outcome F G s)
 
--- what a converter promises: its answer r, and that the result buffer d became o
+-- what a converter promises: its answer r, the numbers of it, and that the result buffer d became o
 pub record Converts (F G : Form) (s d : List ℕ) (r : Conversion) (o : List ℕ) : Type 0 where
   pub answer : r ≡ answerOf (strict F G s (length d))
+  pub numbers : conversionNumbers r ≡ outcomeNumbers (strict F G s (length d))
   pub cells : o ≡ cellsOf (strict F G s (length d)) d

@@ -1,4 +1,5 @@
 pub mod Fault
+pub mod Answer
 pub mod Form
 pub mod Layout
 pub mod Exchange

@@ -13,6 +13,7 @@ use Rattle.types.specs.declared.Counts.{Counts}
 use Rattle.types.specs.declared.Decoding.{Decoding}
 use Rattle.types.specs.declared.Decoding.the-variants.{Decoded, Refused}
 use Rattle.forms.specs.Fault.{limit, refusal}
+use Rattle.forms.specs.Answer.{Numbers, returned, refusedBy}
 use Rattle.forms.specs.Form.{Form, spanOf, items}
 
 -- "one value per item (FFFFFFFF for a mark) and one start per item"
@@ -51,6 +52,11 @@ counts n m = record { items = n; marks = m }
 abbrev pub answerOf : Outcome → Decoding
 answerOf (decoded is) = Decoded (counts (length is) (marks is))
 answerOf (refused r) = Refused r
+
+-- the numbers of that answer: how many items and marks there are, or the refusal's number, its place and zero for both
+abbrev pub outcomeNumbers : Outcome → Numbers Counts
+outcomeNumbers (decoded is) = returned (counts (length is) (marks is))
+outcomeNumbers (refused r) = refusedBy (counts 0 0) r
 
 -- what a call leaves in the buffer of values, and in that of starts
 abbrev pub valuesIn : Outcome → List ℕ → List ℕ

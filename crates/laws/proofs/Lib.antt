@@ -19,6 +19,7 @@ pub mod Characters
 pub mod Buffers
 pub mod Outcomes
 pub mod Progress
+pub mod Numbers
 pub mod Exactness
 pub mod Answers
 pub mod Room

@@ -13,6 +13,7 @@ use Rattle.types.specs.declared.Conversion.the-variants.{Units, Refused}
 use Rattle.forms.specs.Fault.{limit, refusal}
 use Rattle.forms.specs.Form.{Form, encode}
 use Rattle.forms.specs.Conversion.{refusalAt, answerOf, Measures}
+use Rattle.laws.proofs.Numbers.{measures}
 use Rattle.laws.proofs.Runs.{Counted, progress-run}
 use Rattle.laws.proofs.Progress.{CharacterAt, MarkAt, character-onward, Progress, progress-begin, progress-end, progress-over, progress-more, progress-stops}
 
@@ -30,13 +31,13 @@ length-zero (u ∷ e) n q z = absurd (omega arith)
 
 module _ {F G : Form} {s : List ℕ} where
   pub measuring-over : {r : Refusal} → r ≡ refusal SourceTooLong 0 → limit < length s → Measures F G s (Refused r)
-  measuring-over e h = record { answer = ap Refused e ∙ sym (ap answerOf (progress-over F G s h)) }
+  measuring-over e h = measures (ap Refused e ∙ sym (ap answerOf (progress-over F G s h)))
 
   pub measuring-begin : length s ≤ limit → Measuring F G s 0 0
   measuring-begin h = record { done = []; progress = progress-begin F G s h; counted = refl; small = omega arith; short = h }
 
   pub measuring-end : {at units : ℕ} → Measuring F G s at units → length s ≤ at → Measures F G s (Units units)
-  measuring-end {at} m h = record { answer = ap Units (m .counted) ∙ sym (ap answerOf (progress-end F G s at (m .done) (m .progress) h)) }
+  measuring-end {at} m h = measures (ap Units (m .counted) ∙ sym (ap answerOf (progress-end F G s at (m .done) (m .progress) h)))
 
   -- a run of characters at once
   pub measuring-run : {at units k u : ℕ} → Measuring F G s at units → Counted F G s at k u → Measuring F G s (at + k) (units + u)
@@ -51,13 +52,13 @@ module _ {F G : Form} {s : List ℕ} where
 
   module _ {p units : ℕ} {q : Span} where
     pub measuring-mark : {f : Fault} {r : Refusal} → Measuring F G s p units → MarkAt F s p f q → r ≡ refusalAt (Mark f q) → Measures F G s (Refused r)
-    measuring-mark {f} m c e = record { answer = ap Refused e ∙ sym (ap answerOf (progress-stops F G s p (c .inside) (Mark f q) (c .is) (m .done) (m .progress) refl)) }
+    measuring-mark {f} m c e = measures (ap Refused e ∙ sym (ap answerOf (progress-stops F G s p (c .inside) (Mark f q) (c .is) (m .done) (m .progress) refl)))
 
     module _ {v n : ℕ} where
       pub measuring-unheld :
           {r : Refusal} → Measuring F G s p units → CharacterAt F s p v q → n ≡ length (encode G v) → n ≡ 0 → r ≡ refusalAt (Character v q) → Measures F G s (Refused r)
       measuring-unheld m c l z e =
-          record { answer = ap Refused e ∙ sym (ap answerOf (progress-stops F G s p (c .inside) (Character v q) (c .is) (m .done) (m .progress) (length-zero (encode G v) n l z))) }
+          measures (ap Refused e ∙ sym (ap answerOf (progress-stops F G s p (c .inside) (Character v q) (c .is) (m .done) (m .progress) (length-zero (encode G v) n l z))))
 
       pub measuring-more :
           Measuring F G s p units → CharacterAt F s p v q → n ≡ length (encode G v) → (n ≡ 0 → ⊥) → length (encode G v) ≤ 7 → Measuring F G s (p + q .length) (units + n)

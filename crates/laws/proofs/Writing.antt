@@ -18,6 +18,7 @@ use Rattle.forms.specs.Form.{Form, encode}
 use Rattle.forms.specs.Buffer.{withUnits, Holds}
 use Rattle.forms.specs.Conversion.{converted, refused, convertItems, outcome, Measures, Converts}
 use Rattle.laws.proofs.Outcomes.{converted-same}
+use Rattle.laws.proofs.Numbers.{converts}
 use Rattle.laws.proofs.Answers.{answer-units, answer-refused}
 use Rattle.laws.proofs.Buffers.{holds-none, holds-more, length-with, with-none}
 use Rattle.laws.proofs.Characters.{prepend-converted}
@@ -38,20 +39,18 @@ pub record Writing (F G : Form) (s d : List ℕ) (at written : ℕ) (o : List �
 module _ {F G : Form} {s d : List ℕ} where
   -- what a converter promises, from the outcome and the room
   converts-short : (es : List ℕ) → outcome F G s ≡ converted es → length d < length es → Converts F G s d (Refused (refusal BufferTooShort 0)) d
-  converts-short es e h = record { answer = rw (e, lt-ltb (length d) (length es) h); cells = rw (e, lt-ltb (length d) (length es) h) }
+  converts-short es e h = converts (rw (e, lt-ltb (length d) (length es) h)) (rw (e, lt-ltb (length d) (length es) h))
 
   converts-all : (es o : List ℕ) (n : ℕ) → outcome F G s ≡ converted es → length es ≤ length d → Holds d es n o → Converts F G s d (Units n) o
   converts-all es o n e h w =
-      record {
-        answer = rw (e, le-ltb (length d) (length es) h) (ap Units (w .counted));
-        cells = rw (e, le-ltb (length d) (length es) h) (w .cells ∙ ap (λ (m : ℕ). es ++ drop m d) (w .counted));
-      }
+      converts (rw (e, le-ltb (length d) (length es) h) (ap Units (w .counted)))
+      (rw (e, le-ltb (length d) (length es) h) (w .cells ∙ ap (λ (m : ℕ). es ++ drop m d) (w .counted)))
 
   module _ {r : Conversion} where
     pub writing-refused : {q : Refusal} → Measures F G s r → r ≡ Refused q → Converts F G s d r d
     writing-refused {q} m e =
         let x : outcome F G s ≡ refused q = answer-refused (outcome F G s) q (sym (m .answer) ∙ e) in
-        record { answer = e ∙ rw x; cells = rw x }
+        converts (e ∙ rw x) (rw x)
 
     module _ {n : ℕ} where
       pub writing-short : {q : Refusal} → Measures F G s r → r ≡ Units n → q ≡ refusal BufferTooShort 0 → length d < n → Converts F G s d (Refused q) d

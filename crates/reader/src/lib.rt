@@ -11,7 +11,7 @@ ghost use lib.ListN.{length};
 ghost use Rattle.forms.specs.Form.{spanOf};
 ghost use Rattle.forms.specs.Forms.{fssUtf, utfEbcdic, utf16, ucs4};
 ghost use Rattle.tables.specs.ByteForms.{byteForm};
-ghost use Rattle.reader.specs.Step.{cursor, behind, stepAt};
+ghost use Rattle.reader.specs.Step.{cursor, behind, ReadsItem};
 
 // A place in a text, which each step carries forward past one item.
 pub struct Cursor {
@@ -105,19 +105,19 @@ impl Cursor {
     }
 
     pub fn step_fss_utf(self, text: &[u8]) -> Step
-        ensures { λ r. ⌜ r ≡ stepAt fssUtf (now (text .entry)) self ⌝ }
+        ensures { λ r. ⌜ ReadsItem fssUtf (now (text .entry)) self r ⌝ }
     {
         self.step_bytes(ByteForm::FssUtf, text)
     }
 
     pub fn step_utf_ebcdic(self, text: &[u8]) -> Step
-        ensures { λ r. ⌜ r ≡ stepAt utfEbcdic (now (text .entry)) self ⌝ }
+        ensures { λ r. ⌜ ReadsItem utfEbcdic (now (text .entry)) self r ⌝ }
     {
         self.step_bytes(ByteForm::UtfEbcdic, text)
     }
 
     fn step_bytes(self, form: ByteForm, text: &[u8]) -> Step
-        ensures { λ r. ⌜ r ≡ stepAt (byteForm form) (now (text .entry)) self ⌝ }
+        ensures { λ r. ⌜ ReadsItem (byteForm form) (now (text .entry)) self r ⌝ }
     {
         let offset = self.offset;
         if 65536 < text.len() {
@@ -133,7 +133,7 @@ impl Cursor {
     }
 
     pub fn step_utf16(self, text: &[u16]) -> Step
-        ensures { λ r. ⌜ r ≡ stepAt utf16 (now (text .entry)) self ⌝ }
+        ensures { λ r. ⌜ ReadsItem utf16 (now (text .entry)) self r ⌝ }
     {
         let offset = self.offset;
         if 65536 < text.len() {
@@ -149,7 +149,7 @@ impl Cursor {
     }
 
     pub fn step_ucs4(self, text: &[u32]) -> Step
-        ensures { λ r. ⌜ r ≡ stepAt ucs4 (now (text .entry)) self ⌝ }
+        ensures { λ r. ⌜ ReadsItem ucs4 (now (text .entry)) self r ⌝ }
     {
         let offset = self.offset;
         if 65536 < text.len() {

@@ -21,7 +21,7 @@ returns : tie.Need-returns
 returns c = rw (c .before .step .given .1)
 
 returns-2 : tie.Need-returns-2
-returns-2 c = search needs
+returns-2 c = rw (c .before .before .step2 .given .1) (c .shown-item .ensures)
 
 returns-3 : tie.Need-returns-3
 returns-3 c = rw (c .before .before .step3 .given .1) (c .refused-item .ensures)

@@ -11,7 +11,7 @@ item-answer-requires : tie.Need-item-answer-requires
 item-answer-requires c κs = search needs
 
 returns : tie.Need-returns
-returns c = c .item-answer .ensures ∙ ap itemAnswer (c .before .step-fss-utf .ensures)
+returns c = c .item-answer .ensures ∙ ap itemAnswer (c .before .step-fss-utf .ensures .answer)
 
 pub jk-fss-utf-item-at-spec : {M : Type 1} → statement M
 jk-fss-utf-item-at-spec = tie.close (tie.spec step-fss-utf-requires item-answer-requires returns)

@@ -11,7 +11,7 @@ item-answer-requires : tie.Need-item-answer-requires
 item-answer-requires c κs = search needs
 
 returns : tie.Need-returns
-returns c = c .item-answer .ensures ∙ ap itemAnswer (c .before .step-ucs4 .ensures)
+returns c = c .item-answer .ensures ∙ ap itemAnswer (c .before .step-ucs4 .ensures .answer)
 
 pub jk-ucs4-item-at-spec : {M : Type 1} → statement M
 jk-ucs4-item-at-spec = tie.close (tie.spec step-ucs4-requires item-answer-requires returns)

@@ -11,7 +11,7 @@ item-answer-requires : tie.Need-item-answer-requires
 item-answer-requires c κs = search needs
 
 returns : tie.Need-returns
-returns c = c .item-answer .ensures ∙ ap itemAnswer (c .before .step-utf16 .ensures)
+returns c = c .item-answer .ensures ∙ ap itemAnswer (c .before .step-utf16 .ensures .answer)
 
 pub jk-utf16-item-at-spec : {M : Type 1} → statement M
 jk-utf16-item-at-spec = tie.close (tie.spec step-utf16-requires item-answer-requires returns)

@@ -11,7 +11,7 @@ item-answer-requires : tie.Need-item-answer-requires
 item-answer-requires c κs = search needs
 
 returns : tie.Need-returns
-returns c = c .item-answer .ensures ∙ ap itemAnswer (c .before .step-utf-ebcdic .ensures)
+returns c = c .item-answer .ensures ∙ ap itemAnswer (c .before .step-utf-ebcdic .ensures .answer)
 
 pub jk-utf-ebcdic-item-at-spec : {M : Type 1} → statement M
 jk-utf-ebcdic-item-at-spec =
