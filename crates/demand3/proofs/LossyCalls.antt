@@ -41,6 +41,12 @@ answer-numbers : (x : Outcome) → decodingNumbers (answerOf x) ≡ outcomeNumbe
 answer-numbers (decoded is) = refl
 answer-numbers (refused q) = refl
 
+-- the promise settles the answer, its numbers, and every cell of both buffers
+pub settled :
+    (F : Form) (s d e : List ℕ) (q r : Decoding) (o p x y : List ℕ) → DecodesLossy F s d e q o p → DecodesLossy F s d e r x y
+    → (q ≡ r) × (decodingNumbers q ≡ decodingNumbers r) × (o ≡ x) × (p ≡ y)
+settled F s d e q r o p x y a b = (a .answer ∙ sym (b .answer), a .numbers ∙ sym (b .numbers), a .values ∙ sym (b .values), a .starts ∙ sym (b .starts))
+
 module _ (F : Form) (laws : Laws F) (s d e : List ℕ) (r : Decoding) (o p : List ℕ)
     (answer : r ≡ answerOf (lossy F s (length d) (length e)))
     (values : o ≡ valuesIn (lossy F s (length d) (length e)) d)
@@ -80,9 +86,3 @@ module _ (F : Form) (laws : Laws F) (s d e : List ℕ) (r : Decoding) (o p : Lis
           starts = starts;
           demand3 = due;
         }
-
--- it settles the answer, its numbers, and every cell of both buffers
-pub settled :
-    (F : Form) (s d e : List ℕ) (q r : Decoding) (o p x y : List ℕ) → DecodesLossy F s d e q o p → DecodesLossy F s d e r x y
-    → (q ≡ r) × (decodingNumbers q ≡ decodingNumbers r) × (o ≡ x) × (p ≡ y)
-settled F s d e q r o p x y a b = (a .answer ∙ sym (b .answer), a .numbers ∙ sym (b .numbers), a .values ∙ sym (b .values), a .starts ∙ sym (b .starts))

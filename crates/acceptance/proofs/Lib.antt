@@ -1,0 +1,16 @@
+pub mod Numbers
+pub mod Marking
+pub mod FaultNumbers
+pub mod Each
+pub mod Standing
+pub mod FirstFaults
+pub mod Outcomes
+pub mod Decoded
+pub mod Condition2
+pub mod Condition1
+pub mod Condition3
+pub mod Places
+pub mod Settled
+pub mod Dummies
+pub mod PairTable
+pub mod Acceptance

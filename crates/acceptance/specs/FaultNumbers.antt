@@ -1,0 +1,105 @@
+-- Document 01, "Fault numbers": which numbers a call gives, which an item has, and when. 0 stands for no fault.
+use Prim.Native.Nat.{ℕ, suc, _≤_, _<_}
+use mathlib.Core.Path.{_≡_}
+use mathlib.Core.Logic.{_≢_, _⊎_, _↔_}
+use mathlib.Core.List.{List, [], _∷_}
+use lib.ListN.{length}
+use Rattle.forms.specs.Form.{lead, trailing, invalid, Form, taken, firstOf, encode, OccursAt}
+use Rattle.forms.specs.Forms.{fssUtf, utfEbcdic, utf16, ucs4}
+use Rattle.c_answers.specs.declared.JkConversion.{JkConversion}
+use Rattle.c_answers.specs.Promises.{ConvertsInC, MeasuresInC}
+use Rattle.acceptance.specs.Calls.{EachForm}
+
+abbrev pub Among : ℕ → List ℕ → Type 0
+Among k [] = ⊥
+Among k (n ∷ ns) = (k ≡ n) ⊎ Among k ns
+
+-- the faults of marks; no text gives 8
+abbrev pub markFaults : List ℕ
+markFaults = 2 ∷ 3 ∷ 4 ∷ 5 ∷ []
+
+-- "then 2, 3, 4, 5, 8 or 6": those by which a strict conversion refuses an item
+abbrev pub strictFaults : List ℕ
+strictFaults = 2 ∷ 3 ∷ 4 ∷ 5 ∷ 6 ∷ []
+
+-- the numbers that a conversion gives
+abbrev pub conversionFaults : List ℕ
+conversionFaults = 0 ∷ 1 ∷ 7 ∷ strictFaults
+
+-- "The measure gives no 7."
+abbrev pub measureFaults : List ℕ
+measureFaults = 0 ∷ 1 ∷ strictFaults
+
+-- "It refuses by 1 and 7 only"
+abbrev pub decodingFaults : List ℕ
+decodingFaults = 0 ∷ 1 ∷ 7 ∷ []
+
+-- when the item at the front of u ∷ us is a mark of the fault k: a row for each number
+pub data Marks (F : Form) (u : ℕ) (us : List ℕ) (k : ℕ) : Type 0 where
+  -- "a lead has too few trailing units, the text's end included": of the n that it asks it takes fewer
+  too-few : k ≡ 2 → (n : ℕ) → F .role u ≡ lead n → length (taken F n us) < n → Marks F u us k
+  -- "a trailing unit that no lead takes"
+  stray : k ≡ 3 → F .role u ≡ trailing → Marks F u us k
+  -- "FSS-UTF FE or FF; UCS-4 unit of 80000000 or more": see `NoRole`
+  no-role : k ≡ 4 → F .role u ≡ invalid → Marks F u us k
+  -- "the sequence is longer than its value needs": the lead has all that it asks, and a shorter sequence has the value
+  too-long :
+      k ≡ 5 → (n : ℕ) → F .role u ≡ lead n → length (taken F n us) ≡ n
+      → F .shortest (F .value (firstOf F u us)) ≢ [] → length (F .shortest (F .value (firstOf F u us))) < suc n → Marks F u us k
+
+-- when a conversion to G refuses it by k
+pub data Refuses (F G : Form) (u : ℕ) (us : List ℕ) (k : ℕ) : Type 0 where
+  marked : Marks F u us k → Refuses F G u us k
+  -- "the target can't hold the value": a good character that has no legal encoding there; see `Held`
+  unheld : k ≡ 6 → (v : ℕ) → OccursAt F (u ∷ us) 0 v → encode G v ≡ [] → Refuses F G u us k
+
+-- 4, by form: "FSS-UTF FE or FF; UCS-4 unit of 80000000 or more"
+pub record NoRole : Type 0 where
+  pub fss-utf : (u : ℕ) → u < 0x100 → (fssUtf .role u ≡ invalid) ↔ ((u ≡ 0xFE) ⊎ (u ≡ 0xFF))
+  pub utf-ebcdic : (u : ℕ) → u < 0x100 → utfEbcdic .role u ≢ invalid
+  pub utf-16 : (u : ℕ) → u < 0x10000 → utf16 .role u ≢ invalid
+  pub ucs-4 : (u : ℕ) → u < 0x100000000 → (ucs4 .role u ≡ invalid) ↔ (0x80000000 ≤ u)
+
+-- 6, by target: "UTF-16 for D800-DFFF or above 10FFFF"
+pub record Held : Type 0 where
+  -- "Values run from 0 to 7FFFFFFF."
+  pub values : EachForm (λ F. (v : ℕ) → encode F v ≢ [] → v < 0x80000000)
+  pub fss-utf : (v : ℕ) → v < 0x80000000 → encode fssUtf v ≢ []
+  pub utf-ebcdic : (v : ℕ) → v < 0x80000000 → encode utfEbcdic v ≢ []
+  pub utf-16 : (v : ℕ) → v < 0x80000000 → (encode utf16 v ≡ []) ↔ (((0xD800 ≤ v) × (v ≤ 0xDFFF)) ⊎ (0x10FFFF < v))
+  pub ucs-4 : (v : ℕ) → v < 0x80000000 → encode ucs4 v ≢ []
+
+-- some text of units below w begins with a mark of the fault k
+abbrev pub Occurs : Form → ℕ → ℕ → Type 0
+Occurs F w k = (u : ℕ) × (us : List ℕ) × (u < w) × Marks F u us k
+
+-- the faults that items of each form have, of units within their width: these and no others
+pub record FaultTable : Type 0 where
+  pub fss-utf : (k : ℕ) → Occurs fssUtf 0x100 k ↔ Among k (2 ∷ 3 ∷ 4 ∷ 5 ∷ [])
+  pub utf-ebcdic : (k : ℕ) → Occurs utfEbcdic 0x100 k ↔ Among k (2 ∷ 3 ∷ 5 ∷ [])
+  pub utf-16 : (k : ℕ) → Occurs utf16 0x10000 k ↔ Among k (2 ∷ 3 ∷ [])
+  pub ucs-4 : (k : ℕ) → Occurs ucs4 0x100000000 k ↔ Among k (4 ∷ [])
+
+-- the units of a lent text are below w
+abbrev pub Below : ℕ → List ℕ → Type 0
+Below w [] = Unit {0}
+Below w (u ∷ us) = (u < w) × Below w us
+
+-- a conversion from F to G and its measure refuse an item by these numbers and no others
+pub record Only (F G : Form) (w : ℕ) (ks : List ℕ) : Type 0 where
+  pub converted : (s d : List ℕ) (r : JkConversion) (o : List ℕ) → Below w s → ConvertsInC F G s d r o → Among (r .fault) (0 ∷ 1 ∷ 7 ∷ ks)
+  pub measured : (s : List ℕ) (r : JkConversion) → Below w s → MeasuresInC F G s r → Among (r .fault) (0 ∷ 1 ∷ ks)
+
+pub record PairTable : Type 0 where
+  pub fss-utf-to-utf-ebcdic : Only fssUtf utfEbcdic 0x100 (2 ∷ 3 ∷ 4 ∷ 5 ∷ [])
+  pub fss-utf-to-utf-16 : Only fssUtf utf16 0x100 (2 ∷ 3 ∷ 4 ∷ 5 ∷ 6 ∷ [])
+  pub fss-utf-to-ucs-4 : Only fssUtf ucs4 0x100 (2 ∷ 3 ∷ 4 ∷ 5 ∷ [])
+  pub utf-ebcdic-to-fss-utf : Only utfEbcdic fssUtf 0x100 (2 ∷ 3 ∷ 5 ∷ [])
+  pub utf-ebcdic-to-utf-16 : Only utfEbcdic utf16 0x100 (2 ∷ 3 ∷ 5 ∷ 6 ∷ [])
+  pub utf-ebcdic-to-ucs-4 : Only utfEbcdic ucs4 0x100 (2 ∷ 3 ∷ 5 ∷ [])
+  pub utf-16-to-fss-utf : Only utf16 fssUtf 0x10000 (2 ∷ 3 ∷ [])
+  pub utf-16-to-utf-ebcdic : Only utf16 utfEbcdic 0x10000 (2 ∷ 3 ∷ [])
+  pub utf-16-to-ucs-4 : Only utf16 ucs4 0x10000 (2 ∷ 3 ∷ [])
+  pub ucs-4-to-fss-utf : Only ucs4 fssUtf 0x100000000 (4 ∷ [])
+  pub ucs-4-to-utf-ebcdic : Only ucs4 utfEbcdic 0x100000000 (4 ∷ [])
+  pub ucs-4-to-utf-16 : Only ucs4 utf16 0x100000000 (4 ∷ 6 ∷ [])

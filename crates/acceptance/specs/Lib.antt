@@ -1,0 +1,9 @@
+pub mod Calls
+pub mod FaultNumbers
+pub mod Condition1
+pub mod Condition2
+pub mod Condition3
+pub mod Places
+pub mod Settled
+pub mod Dummies
+pub mod Acceptance
