@@ -23,7 +23,7 @@ settled-in-c a b = (a .answer ∙ sym (b .answer), a .cells ∙ sym (b .cells))
 pub decoded-settled :
     {F : Form} {s d e : List ℕ} {q r : JkDecoding} {o p x y : List ℕ} → DecodesLossyInC F s d e q o p → DecodesLossyInC F s d e r x y
     → (q ≡ r) × (o ≡ x) × (p ≡ y)
-decoded-settled a b = (
+decoded-settled {q = q} {r = r} a b = (
   a .numbers ∙ ap decodingAnswer (a .promised .answer ∙ sym (b .promised .answer)) ∙ sym (b .numbers),
   a .promised .values ∙ sym (b .promised .values),
   a .promised .starts ∙ sym (b .promised .starts),
@@ -39,4 +39,4 @@ converts-in-c e c = record { answer = e ∙ ap conversionAnswer (c .answer); cel
 
 pub decodes-in-c :
     {F : Form} {s d e : List ℕ} {a : Decoding} {r : JkDecoding} {o p : List ℕ} → r ≡ decodingAnswer a → DecodesLossy F s d e a o p → DecodesLossyInC F s d e r o p
-decodes-in-c {a = a} e c = record { decoding = a; promised = c; numbers = e }
+decodes-in-c {a = a} {r = r} e c = record { decoding = a; promised = c; numbers = e }
