@@ -262,8 +262,8 @@ pub decoded-answers :
     map (λ n. Lossy.answerOf (lossy fssUtf cut 3 n)) (2 ∷ 3 ∷ 4 ∷ []) ≡ Decoding.Refused (refusal BufferTooShort 0) ∷ Decoded (counts 3 1) ∷ Decoded (counts 3 1) ∷ []
 decoded-answers = refl
 
-pub counted-items : (counts 3 1) .items ≡ 3
-counted-items = refl
+pub counted : ((counts 3 1) .items ≡ 3) × ((counts 3 1) .marks ≡ 1)
+counted = (refl, refl)
 
 pub decoded-short : Lossy.answerOf (lossy fssUtf cut 2 3) ≡ Decoding.Refused (refusal BufferTooShort 0)
 decoded-short = refl
