@@ -1,11 +1,12 @@
 -- The acceptance paper is proved.
 use Rattle.acceptance.specs.Acceptance.{Acceptance}
-use Rattle.acceptance.proofs.FaultNumbers.{no-role-is, values-held, faults-occur}
+use Rattle.acceptance.proofs.FaultNumbers.{no-role-is, values-held, free-bits}
 use Rattle.acceptance.proofs.Each.{each-form, each-pair}
 use Rattle.acceptance.proofs.Decoded.{decoded-so}
 use Rattle.acceptance.proofs.Condition1.{conversion-call, measure-call, decoding-call, reader-call, finder-call}
 use Rattle.acceptance.proofs.Condition2.{conversion, measure, room-suffices, read}
 use Rattle.acceptance.proofs.Condition3.{good-characters, condition-3, middle-alone}
+use Rattle.acceptance.proofs.FaultTable.{fault-table}
 use Rattle.acceptance.proofs.PairTable.{pair-table}
 use Rattle.acceptance.proofs.Places.{start-at, longest-are}
 use Rattle.acceptance.proofs.Settled.{settled-pair, settled-form}
@@ -29,7 +30,8 @@ acceptance =
       middle-as-alone = each-form _ (λ F k. middle-alone F);
       no-role = no-role-is;
       held = values-held;
-      fault-table = faults-occur;
+      byte-forms = free-bits;
+      fault-table = fault-table;
       pair-table = pair-table;
       starts = each-form _ (λ F k. start-at F (k .finds) (k .positive));
       longest = longest-are;

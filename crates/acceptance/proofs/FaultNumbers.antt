@@ -1,7 +1,7 @@
--- Which units have no role, which values a target cannot hold, and which faults the items of each form have.
+-- Which units have no role, which values a target cannot hold, how many bits a byte form carries, and which faults marks have.
 use Prim.Native.Nat.{ℕ, zero, suc, _+_, _≤_, _<_}
 use mathlib.Core.Path.{_≡_, refl, sym, ap, _∙_}
-use mathlib.Core.Logic.{_≢_, _⊎_, inl, inr}
+use mathlib.Core.Logic.{_≢_, _⊎_, inl, inr, _↔_}
 use mathlib.Core.Bool.{Bool, true, false, not, cond, _||_}
 use mathlib.Core.List.{List, [], _∷_, map}
 use mathlib.Core.Option.{Option, none, some}
@@ -11,7 +11,7 @@ use lib.Dec.{ltb}
 use borrow.Author.Tests.{le-ltb, lt-ltb, not-true}
 use lib.ListN.{length, length-map}
 use Rattle.types.specs.declared.Fault.the-variants.{Unrepresentable}
-use Rattle.forms.specs.Form.{Role, lead, trailing, invalid, sequence, Form, asked, taken, firstOf, unless, encode}
+use Rattle.forms.specs.Form.{Role, lead, trailing, invalid, Sequence, sequence, Form, asked, taken, firstOf, unless, encode}
 use Rattle.forms.specs.Layout.{rowAt}
 use Rattle.forms.specs.Exchange.{i8Of}
 use Rattle.forms.specs.Forms.{byteLayout, isSurrogate, utf16Layout, ucs4Layout, fssUtf, i8, utfEbcdic, utf16, ucs4}
@@ -20,11 +20,12 @@ use Rattle.laws.proofs.Table.{below}
 use Rattle.laws.proofs.Rows.{within-in, within-below, within-above, lead-injective, trailing-lead}
 use Rattle.laws.specs.LayoutTable.{Full, AllTrailing}
 use Rattle.laws.proofs.Sequences.{taken-trailing}
+use Rattle.laws.proofs.Characters.{encodable-small}
 use Rattle.laws.proofs.LayoutLaws.{in-row, trailing-digit, value-small, value-limit, full-spelling, length-shortest, at-least}
 use Rattle.laws.proofs.AscendingRows.{leads-of-row}
 use Rattle.laws.proofs.Exchanged.{exchangedSequence}
 use Rattle.laws.proofs.FourForms.{fssUtf-fits, i8-fits, ucs4-fits, utf16-fits, utf16-rise, fssUtf-invalid, ucs4-invalid, low-alone, high-alone, high-unit, low-unit, fssUtf-laws, utfEbcdic-laws, utf16-laws, ucs4-laws}
-use Rattle.acceptance.specs.FaultNumbers.{Among, Marks, too-few, stray, no-role, too-long, NoRole, Held, Occurs, FaultTable}
+use Rattle.acceptance.specs.FaultNumbers.{Among, Marks, too-few, stray, no-role, too-long, NoRole, Held, ByteForms, Occurs}
 use Rattle.acceptance.proofs.Marking.{Carries}
 
 -- 4: units without a role
@@ -74,9 +75,6 @@ no-role-is =
 carried-by : (F : Form) → Laws F → (v : ℕ) → v < 0x80000000 → F .excluded v ≡ none → encode F v ≢ []
 carried-by F laws v h e n = laws .carries v h e (ap (λ (o : Option _). unless o (F .shortest v)) (sym e) ∙ n)
 
-byte-free : (v : ℕ) → v < 0x80000000 → fssUtf .excluded v ≡ none
-byte-free v h = rw (le-ltb 0x7FFFFFFF v (omega arith))
-
 utf16-excluded : (v : ℕ) (b : Bool) → (isSurrogate v || ltb 0x10FFFF v) ≡ b → utf16 .excluded v ≡ cond b (some Unrepresentable) none
 utf16-excluded v b e = ap (λ (x : Bool). cond x (some Unrepresentable) none) e
 
@@ -104,43 +102,59 @@ utf16-beyond v h e (no a) (no b) (no c) = inl (omega arith, omega arith)
 utf16-beyond v h e (yes a) b (no c) = absurd (carried-by utf16 utf16-laws v h (utf16-free v (inl a) (omega arith)) e)
 utf16-beyond v h e (no a) (yes b) (no c) = absurd (carried-by utf16 utf16-laws v h (utf16-free v (inr b) (omega arith)) e)
 
--- a value with a legal encoding is one that the encoding reads as
-small : (F : Form) → Laws F → (v : ℕ) → encode F v ≢ [] → v < 0x80000000
-small F laws v n = go (encode F v) refl
-  where
-    go : (e : List ℕ) → encode F v ≡ e → v < 0x80000000
-    go [] e = absurd (n e)
-    go (u ∷ t) e = laws .small (sequence u t) v (laws .legal v (sequence u t) e)
-
 pub values-held : Held
 values-held =
     record {
       values =
           record {
-            fss-utf = small fssUtf fssUtf-laws;
-            utf-ebcdic = small utfEbcdic utfEbcdic-laws;
-            utf-16 = small utf16 utf16-laws;
-            ucs-4 = small ucs4 ucs4-laws;
+            fss-utf = encodable-small fssUtf fssUtf-laws;
+            utf-ebcdic = encodable-small utfEbcdic utfEbcdic-laws;
+            utf-16 = encodable-small utf16 utf16-laws;
+            ucs-4 = encodable-small ucs4 ucs4-laws;
           };
-      fss-utf = λ v h. carried-by fssUtf fssUtf-laws v h (byte-free v h);
-      utf-ebcdic = λ v h. carried-by utfEbcdic utfEbcdic-laws v h (byte-free v h);
+      fss-utf = λ v h. carried-by fssUtf fssUtf-laws v h refl;
+      utf-ebcdic = λ v h. carried-by utfEbcdic utfEbcdic-laws v h refl;
       utf-16 = λ v h. ((λ e. utf16-beyond v h e (decLt v 0xD800) (decLt 0xDFFF v) (decLt 0x10FFFF v)), utf16-none v);
       ucs-4 = λ v h. carried-by ucs4 ucs4-laws v h refl;
     }
 
--- no full sequence has a value that its form excludes
-pub fssUtf-carries : Carries fssUtf
-fssUtf-carries c f = byte-free (fssUtf .value c) (value-small (byteLayout 6 6) fssUtf-fits c f)
-
+-- 31 free bits: a full sequence of UTF-EBCDIC is one of I8, exchanged
 trail-to : (t : List ℕ) → AllTrailing utfEbcdic t → AllTrailing i8 (map i8Of t)
 trail-to [] a = tt
 trail-to (x ∷ xs) a = (a .0, trail-to xs (a .1))
 
+full-i8 : (c : Sequence) → Full utfEbcdic c → Full i8 (exchangedSequence i8Of c)
+full-i8 c f = record { leads = rw (length-map (c .rest) i8Of) (f .leads); trail = trail-to (c .rest) (f .trail) }
+
+pub free-bits : ByteForms
+free-bits =
+    record {
+      fss-utf =
+          record {
+            long = λ c f. in-row (byteLayout 6 6) fssUtf-fits (c .first) (length (c .rest)) (f .leads) .inside;
+            value = value-small (byteLayout 6 6) fssUtf-fits;
+            highest = (sequence 0xFD (0xBF ∷ 0xBF ∷ 0xBF ∷ 0xBF ∷ 0xBF ∷ []), record { leads = refl; trail = (refl, (refl, (refl, (refl, (refl, tt))))) }, refl);
+          };
+      i8-bytes =
+          record {
+            long = λ c f. in-row (byteLayout 5 7) i8-fits (c .first) (length (c .rest)) (f .leads) .inside;
+            value = value-small (byteLayout 5 7) i8-fits;
+            highest = (sequence 0xFF (0xBF ∷ 0xBF ∷ 0xBF ∷ 0xBF ∷ 0xBF ∷ 0xBF ∷ []), record { leads = refl; trail = (refl, (refl, (refl, (refl, (refl, (refl, tt)))))) }, refl);
+          };
+      utf-ebcdic =
+          record {
+            long = λ c f. in-row (byteLayout 5 7) i8-fits (i8Of (c .first)) (length (c .rest)) (f .leads) .inside;
+            value = λ c f. value-small (byteLayout 5 7) i8-fits (exchangedSequence i8Of c) (full-i8 c f);
+            highest = (sequence 0xE1 (0xFE ∷ 0xFE ∷ 0xFE ∷ 0xFE ∷ 0xFE ∷ 0xFE ∷ []), record { leads = refl; trail = (refl, (refl, (refl, (refl, (refl, (refl, tt)))))) }, refl);
+          };
+    }
+
+-- no full sequence has a value that its form excludes
+pub fssUtf-carries : Carries fssUtf
+fssUtf-carries c f = refl
+
 pub utfEbcdic-carries : Carries utfEbcdic
-utfEbcdic-carries c f =
-    byte-free
-    (utfEbcdic .value c)
-    (value-small (byteLayout 5 7) i8-fits (exchangedSequence i8Of c) (record { leads = rw (length-map (c .rest) i8Of) (f .leads); trail = trail-to (c .rest) (f .trail) }))
+utfEbcdic-carries c f = refl
 
 utf16-alone : (u : ℕ) → utf16 .role u ≡ lead 0 → Dec (u < 0xD800) → Dec (u < 0xDC00) → Dec (0xDFFF < u) → (u < 0xD800) ⊎ (0xDFFF < u)
 utf16-alone u e (yes a) b c = inl a
@@ -236,11 +250,14 @@ ucs4-faults u us k (too-long e n l w s h) =
 ucs4-occurs : (k : ℕ) → Among k (4 ∷ []) → Occurs ucs4 0x100000000 k
 ucs4-occurs k (inl e) = (0x80000000, [], omega arith, no-role e (ucs4-invalid 0x80000000 (omega arith)))
 
-pub faults-occur : FaultTable
-faults-occur =
-    record {
-      fss-utf = λ k. ((λ w. fssUtf-faults (w .0) (w .1) k (w .3)), fssUtf-occurs k);
-      utf-ebcdic = λ k. ((λ w. utfEbcdic-faults (w .0) (w .1) k (w .2) (w .3)), utfEbcdic-occurs k);
-      utf-16 = λ k. ((λ w. utf16-faults (w .0) (w .1) k (w .2) (w .3)), utf16-occurs k);
-      ucs-4 = λ k. ((λ w. ucs4-faults (w .0) (w .1) k (w .3)), ucs4-occurs k);
-    }
+pub fssUtf-occur : (k : ℕ) → Occurs fssUtf 0x100 k ↔ Among k (2 ∷ 3 ∷ 4 ∷ 5 ∷ [])
+fssUtf-occur k = ((λ w. fssUtf-faults (w .0) (w .1) k (w .3)), fssUtf-occurs k)
+
+pub utfEbcdic-occur : (k : ℕ) → Occurs utfEbcdic 0x100 k ↔ Among k (2 ∷ 3 ∷ 5 ∷ [])
+utfEbcdic-occur k = ((λ w. utfEbcdic-faults (w .0) (w .1) k (w .2) (w .3)), utfEbcdic-occurs k)
+
+pub utf16-occur : (k : ℕ) → Occurs utf16 0x10000 k ↔ Among k (2 ∷ 3 ∷ [])
+utf16-occur k = ((λ w. utf16-faults (w .0) (w .1) k (w .2) (w .3)), utf16-occurs k)
+
+pub ucs4-occur : (k : ℕ) → Occurs ucs4 0x100000000 k ↔ Among k (4 ∷ [])
+ucs4-occur k = ((λ w. ucs4-faults (w .0) (w .1) k (w .3)), ucs4-occurs k)

@@ -12,5 +12,6 @@ pub mod Condition3
 pub mod Places
 pub mod Settled
 pub mod Dummies
+pub mod FaultTable
 pub mod PairTable
 pub mod Acceptance

@@ -11,7 +11,7 @@ use Rattle.laws.proofs.TwelvePairs.{fssUtf-utfEbcdic, fssUtf-utf16, fssUtf-ucs4
 use Rattle.acceptance.specs.FaultNumbers.{Among, strictFaults, Refuses, marked, unheld, Occurs, Below, Only, PairTable}
 use Rattle.acceptance.specs.Condition2.{FirstFault, Exactly}
 use Rattle.acceptance.proofs.Numbers.{has, among, allIn, all-in}
-use Rattle.acceptance.proofs.FaultNumbers.{values-held, faults-occur}
+use Rattle.acceptance.proofs.FaultNumbers.{values-held, fssUtf-occur, utfEbcdic-occur, utf16-occur, ucs4-occur}
 use Rattle.acceptance.proofs.Each.{Known, known}
 use Rattle.acceptance.proofs.Condition1.{conversion-call, measure-call}
 use Rattle.acceptance.proofs.Condition2.{conversion, measure}
@@ -69,16 +69,16 @@ to-utf16 : {F : Form} {most : ℕ → ℕ} {w : ℕ} {ms : List ℕ} (ks : List 
 to-utf16 {F} {most} {w} {ms} ks a p both six = only F utf16 most p (a .known-so) w ms ks (a .row) both (λ v n e. among 6 6 ks six refl)
 
 fssUtf-source : Source fssUtf 0x100 (2 ∷ 3 ∷ 4 ∷ 5 ∷ [])
-fssUtf-source = record { known-so = known .fss-utf; row = λ k. faults-occur .fss-utf k .0; small = values-held .values .fss-utf }
+fssUtf-source = record { known-so = known .fss-utf; row = λ k. fssUtf-occur k .0; small = values-held .values .fss-utf }
 
 utfEbcdic-source : Source utfEbcdic 0x100 (2 ∷ 3 ∷ 5 ∷ [])
-utfEbcdic-source = record { known-so = known .utf-ebcdic; row = λ k. faults-occur .utf-ebcdic k .0; small = values-held .values .utf-ebcdic }
+utfEbcdic-source = record { known-so = known .utf-ebcdic; row = λ k. utfEbcdic-occur k .0; small = values-held .values .utf-ebcdic }
 
 utf16-source : Source utf16 0x10000 (2 ∷ 3 ∷ [])
-utf16-source = record { known-so = known .utf-16; row = λ k. faults-occur .utf-16 k .0; small = values-held .values .utf-16 }
+utf16-source = record { known-so = known .utf-16; row = λ k. utf16-occur k .0; small = values-held .values .utf-16 }
 
 ucs4-source : Source ucs4 0x100000000 (4 ∷ [])
-ucs4-source = record { known-so = known .ucs-4; row = λ k. faults-occur .ucs-4 k .0; small = values-held .values .ucs-4 }
+ucs4-source = record { known-so = known .ucs-4; row = λ k. ucs4-occur k .0; small = values-held .values .ucs-4 }
 
 pub pair-table : PairTable
 pair-table =

@@ -1,6 +1,6 @@
 -- The acceptance paper on a page: what holds of every public call, from its contract alone. `proofs/Acceptance` proves it.
 use Rattle.acceptance.specs.Calls.{EachForm, EachPair, ConverterCalls, MeasureCalls, DecodingCalls, ReaderCalls, FinderCalls}
-use Rattle.acceptance.specs.FaultNumbers.{NoRole, Held, FaultTable, PairTable}
+use Rattle.acceptance.specs.FaultNumbers.{NoRole, Held, ByteForms, FaultTable, PairTable}
 use Rattle.acceptance.specs.Condition1.{ConversionCall, MeasureCall, DecodingCall, ReaderCall, FinderCall}
 use Rattle.acceptance.specs.Condition2.{ReadAt, Decoded, Converted, Measured, Room}
 use Rattle.acceptance.specs.Condition3.{GoodCharacters, Condition3, MiddleAlone}
@@ -25,9 +25,10 @@ pub record Acceptance : Type 0 where
   pub good-characters : EachForm GoodCharacters
   pub no-neighbour-lost : DecodingCalls Condition3
   pub middle-as-alone : DecodingCalls MiddleAlone
-  -- document 01: fault numbers, starts, what acceptance proves
+  -- document 01, and request 107: fault numbers, starts, what acceptance proves
   pub no-role : NoRole
   pub held : Held
+  pub byte-forms : ByteForms
   pub fault-table : FaultTable
   pub pair-table : PairTable
   pub starts : FinderCalls StartAt

@@ -52,7 +52,7 @@ pub record ItemInside (s : List ℕ) (q : ℕ) (r : JkItem) : Type 0 where
   pub within : q + r .length ≤ length s
 
 -- a one-item reader: "Calls at a place: 1, then 9; a reader may be asked at the end itself and says End". "The one-item reader never gives
--- 2 to 5 or 8 as a refusal: they are marks."
+-- 2 to 5 ... as a refusal: they are marks."
 pub record ReaderCall (s : List ℕ) (q : ℕ) (r : JkItem) : Type 0 where
   pub over : 65536 < length s → r ≡ jkItem 3 1 0 0 0
   pub beyond : length s ≤ 65536 → length s < q → r ≡ jkItem 3 9 0 q 0

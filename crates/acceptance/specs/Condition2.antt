@@ -54,7 +54,7 @@ pub record FirstFault (F G : Form) (s : List ℕ) (q k : ℕ) : Type 0 where
   pub place : q ≡ length (encodeAll F values)
   pub refused : Refuses F G unit others k
 
--- "Each is given exactly then, in this order. Whole-text calls: 1; then 2, 3, 4, 5, 8 or 6 at the lowest place where one applies"
+-- "Each is given exactly then, in this order. Whole-text calls: 1; then 2, 3, 4, 5 ... or 6 at the lowest place where one applies"
 pub record Exactly (F G : Form) (s : List ℕ) (r : JkConversion) : Type 0 where
   pub fault-1 : (r .fault ≡ 1) ↔ (65536 < length s)
   pub item-fault : (q k : ℕ) → ((r .fault ≡ k) × (r .offset ≡ q) × Among k strictFaults) ↔ FirstFault F G s q k

@@ -1,12 +1,16 @@
--- Document 01, "Fault numbers": which numbers a call gives, which an item has, and when. 0 stands for no fault.
-use Prim.Native.Nat.{ℕ, suc, _≤_, _<_}
+-- Document 01, "Fault numbers", as request 107 leaves them: which numbers a call gives, which an item has, and when. 0 stands for no fault.
+use Prim.Native.Nat.{ℕ, suc, _^_, _≤_, _<_}
 use mathlib.Core.Path.{_≡_}
 use mathlib.Core.Logic.{_≢_, _⊎_, _↔_}
 use mathlib.Core.List.{List, [], _∷_}
 use lib.ListN.{length}
-use Rattle.forms.specs.Form.{lead, trailing, invalid, Form, taken, firstOf, encode, OccursAt}
-use Rattle.forms.specs.Forms.{fssUtf, utfEbcdic, utf16, ucs4}
+use Rattle.forms.specs.Form.{lead, trailing, invalid, Sequence, size, Form, taken, firstOf, encode, OccursAt}
+use Rattle.forms.specs.Forms.{fssUtf, i8, utfEbcdic, utf16, ucs4}
+use Rattle.laws.specs.LayoutTable.{Full}
+use Rattle.reader.specs.Step.{cursor, stepAt}
 use Rattle.c_answers.specs.declared.JkConversion.{JkConversion}
+use Rattle.c_answers.specs.declared.JkItem.{JkItem}
+use Rattle.c_answers.specs.Answer.{itemAnswer}
 use Rattle.c_answers.specs.Promises.{ConvertsInC, MeasuresInC}
 use Rattle.acceptance.specs.Calls.{EachForm}
 
@@ -14,11 +18,11 @@ abbrev pub Among : ℕ → List ℕ → Type 0
 Among k [] = ⊥
 Among k (n ∷ ns) = (k ≡ n) ⊎ Among k ns
 
--- the faults of marks; no text gives 8
+-- the faults of marks
 abbrev pub markFaults : List ℕ
 markFaults = 2 ∷ 3 ∷ 4 ∷ 5 ∷ []
 
--- "then 2, 3, 4, 5, 8 or 6": those by which a strict conversion refuses an item
+-- "then 2, 3, 4, 5 ... or 6": those by which a strict conversion refuses an item
 abbrev pub strictFaults : List ℕ
 strictFaults = 2 ∷ 3 ∷ 4 ∷ 5 ∷ 6 ∷ []
 
@@ -69,21 +73,38 @@ pub record Held : Type 0 where
   pub utf-16 : (v : ℕ) → v < 0x80000000 → (encode utf16 v ≡ []) ↔ (((0xD800 ≤ v) × (v ≤ 0xDFFF)) ⊎ (0x10FFFF < v))
   pub ucs-4 : (v : ℕ) → v < 0x80000000 → encode ucs4 v ≢ []
 
+-- so many free bits at most, in so many bytes at most: a full sequence has a value below 2 to their power, and one has the highest
+pub record FreeBits (F : Form) (bytes bits : ℕ) : Type 0 where
+  pub long : (c : Sequence) → Full F c → size c ≤ bytes
+  pub value : (c : Sequence) → Full F c → F .value c < 2 ^ bits
+  pub highest : (c : Sequence) × Full F c × (suc (F .value c) ≡ 2 ^ bits)
+
+-- request 107: "Six FSS-UTF bytes and seven I8 bytes carry 31 free bits at most", in UTF-EBCDIC after the exchange. So no byte text gives a
+-- value above 7FFFFFFF, and there is no fault 8.
+pub record ByteForms : Type 0 where
+  pub fss-utf : FreeBits fssUtf 6 31
+  pub i8-bytes : FreeBits i8 7 31
+  pub utf-ebcdic : FreeBits utfEbcdic 7 31
+
 -- some text of units below w begins with a mark of the fault k
 abbrev pub Occurs : Form → ℕ → ℕ → Type 0
 Occurs F w k = (u : ℕ) × (us : List ℕ) × (u < w) × Marks F u us k
-
--- the faults that items of each form have, of units within their width: these and no others
-pub record FaultTable : Type 0 where
-  pub fss-utf : (k : ℕ) → Occurs fssUtf 0x100 k ↔ Among k (2 ∷ 3 ∷ 4 ∷ 5 ∷ [])
-  pub utf-ebcdic : (k : ℕ) → Occurs utfEbcdic 0x100 k ↔ Among k (2 ∷ 3 ∷ 5 ∷ [])
-  pub utf-16 : (k : ℕ) → Occurs utf16 0x10000 k ↔ Among k (2 ∷ 3 ∷ [])
-  pub ucs-4 : (k : ℕ) → Occurs ucs4 0x100000000 k ↔ Among k (4 ∷ [])
 
 -- the units of a lent text are below w
 abbrev pub Below : ℕ → List ℕ → Type 0
 Below w [] = Unit {0}
 Below w (u ∷ us) = (u < w) × Below w us
+
+-- the marks of F have these faults and no others; so have those that its one-item reader gives
+pub record Faults (F : Form) (w : ℕ) (ks : List ℕ) : Type 0 where
+  pub occur : (k : ℕ) → Occurs F w k ↔ Among k ks
+  pub read : (s : List ℕ) (q : ℕ) (r : JkItem) → Below w s → r ≡ itemAnswer (stepAt F s (cursor q)) → r .kind ≡ 2 → Among (r .fault) ks
+
+pub record FaultTable : Type 0 where
+  pub fss-utf : Faults fssUtf 0x100 (2 ∷ 3 ∷ 4 ∷ 5 ∷ [])
+  pub utf-ebcdic : Faults utfEbcdic 0x100 (2 ∷ 3 ∷ 5 ∷ [])
+  pub utf-16 : Faults utf16 0x10000 (2 ∷ 3 ∷ [])
+  pub ucs-4 : Faults ucs4 0x100000000 (4 ∷ [])
 
 -- a conversion from F to G and its measure refuse an item by these numbers and no others
 pub record Only (F G : Form) (w : ℕ) (ks : List ℕ) : Type 0 where

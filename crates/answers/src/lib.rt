@@ -22,7 +22,6 @@ pub fn number(fault: Fault) -> u32
         Fault::Overlong => 5,
         Fault::Unrepresentable => 6,
         Fault::BufferTooShort => 7,
-        Fault::ValueTooLarge => 8,
         Fault::OffsetOutOfRange => 9,
     }
 }

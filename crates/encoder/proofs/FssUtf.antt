@@ -1,10 +1,8 @@
 -- The encodings of FSS-UTF of one to four bytes, written out.
 use Prim.Native.Nat.{ℕ, _+_, _-_, _/_, _%_, _≤_, _<_}
 use mathlib.Core.Path.{_≡_, ap}
-use mathlib.Core.Logic.{_≢_}
 use mathlib.Core.List.{List, [], _∷_}
 use native.Mathlib.Omega.{arith}
-use native.Mathlib.Decide.{decLt}
 use borrow.Author.Tests.{le-ltb, lt-ltb}
 use Rattle.forms.specs.Form.{encode}
 use Rattle.forms.specs.Forms.{fssUtf}
@@ -23,28 +21,20 @@ module _ (v : ℕ) where
   pub one-byte : v < 0x80 → encode fssUtf v ≡ v ∷ []
   one-byte h =
       let a : 0 + (v - 0) / 1 ≡ v = omega arith in
-      rw (le-ltb 0x7FFFFFFF v (omega arith), lt-ltb v 0x80 h) (ap {B = List ℕ} (λ (x : ℕ). x ∷ []) a)
+      rw (lt-ltb v 0x80 h) (ap {B = List ℕ} (λ (x : ℕ). x ∷ []) a)
 
   pub two-bytes : 0x80 ≤ v → v < 0x800 → encode fssUtf v ≡ (0xC0 + v / 64) ∷ (0x80 + v % 64) ∷ []
   two-bytes h k =
-      rw (le-ltb 0x7FFFFFFF v (omega arith), le-ltb v 0x80 h, lt-ltb v 0x800 k) (same-two (omega arith) (omega arith))
+      rw (le-ltb v 0x80 h, lt-ltb v 0x800 k) (same-two (omega arith) (omega arith))
 
   pub three-bytes : 0x800 ≤ v → v < 0x10000 → encode fssUtf v ≡ (0xE0 + v / 4096) ∷ (0x80 + v / 64 % 64) ∷ (0x80 + v % 64) ∷ []
   three-bytes h k =
-      rw (le-ltb 0x7FFFFFFF v (omega arith), le-ltb v 0x80 (omega arith), le-ltb v 0x800 h, lt-ltb v 0x10000 k)
+      rw (le-ltb v 0x80 (omega arith), le-ltb v 0x800 h, lt-ltb v 0x10000 k)
       (same-three (omega arith) (omega arith) (omega arith))
 
   pub four-bytes :
       0x10000 ≤ v → v < 0x200000
       → encode fssUtf v ≡ (0xF0 + v / 262144) ∷ (0x80 + v / 4096 % 64) ∷ (0x80 + v / 64 % 64) ∷ (0x80 + v % 64) ∷ []
   four-bytes h k =
-      rw (le-ltb 0x7FFFFFFF v (omega arith), le-ltb v 0x80 (omega arith), le-ltb v 0x800 (omega arith), le-ltb v 0x10000 h, lt-ltb v 0x200000 k)
+      rw (le-ltb v 0x80 (omega arith), le-ltb v 0x800 (omega arith), le-ltb v 0x10000 h, lt-ltb v 0x200000 k)
       (same-four (omega arith) (omega arith) (omega arith) (omega arith))
-
-  -- what has an encoding lies below 80000000
-  pub small : encode fssUtf v ≢ [] → v < 0x80000000
-  small n = go (decLt v 0x80000000)
-    where
-      go : Dec (v < 0x80000000) → v < 0x80000000
-      go (yes a) = a
-      go (no a) = absurd (n (rw (lt-ltb 0x7FFFFFFF v (omega arith))))

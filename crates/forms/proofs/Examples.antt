@@ -8,7 +8,7 @@ use native.Mathlib.Omega.{arith}
 use borrow.Author.Tests.{lt-ltb, le-ltb}
 use lib.ListN.{length, drop}
 use Rattle.types.specs.declared.Fault.{Fault}
-use Rattle.types.specs.declared.Fault.the-variants.{SourceTooLong, MissingTrailing, StrayTrailing, InvalidUnit, Overlong, Unrepresentable, BufferTooShort, ValueTooLarge, OffsetOutOfRange}
+use Rattle.types.specs.declared.Fault.the-variants.{SourceTooLong, MissingTrailing, StrayTrailing, InvalidUnit, Overlong, Unrepresentable, BufferTooShort, OffsetOutOfRange}
 use Rattle.types.specs.declared.Item.{Item}
 use Rattle.types.specs.declared.Item.the-variants.{Character, Mark}
 use Rattle.types.specs.declared.Conversion.{Conversion}
@@ -19,7 +19,7 @@ use Rattle.forms.specs.Answer.{numbers, conversionNumbers, decodingNumbe
 use Rattle.forms.specs.Form.{units, Form, sequences, span, spanOf, items, encode, encodeAll, AllEncodable, WellFormed, OccursAt}
 use Rattle.forms.specs.Layout.{formOf}
 use Rattle.forms.specs.Exchange.{ebcdicOf}
-use Rattle.forms.specs.Forms.{byteLayout, fssUtf, i8, utfEbcdic, utf16, ucs4}
+use Rattle.forms.specs.Forms.{byteLayout, utf16Layout, fssUtf, i8, utfEbcdic, utf16, ucs4}
 use Rattle.forms.specs.Flags.{flagOf}
 use Rattle.types.specs.declared.Decoding.the-variants as Decoding
 use Rattle.types.specs.declared.Decoding.the-variants.{Decoded}
@@ -34,6 +34,8 @@ pub data Example : Type 0 where
   encodes : Form → ℕ → List ℕ → Example
   -- a value that the form does not carry
   excludes : Form → ℕ → Fault → Example
+  -- a value that no sequence of the form has
+  lacks : Form → ℕ → Example
   -- a text and its items
   reads : Form → List ℕ → List Item → Example
   -- a text converted into a buffer: the answer, and the buffer's cells then
@@ -48,24 +50,27 @@ pub data Result : Type 0 where
 abbrev pub actual : Example → Result
 actual (encodes F v e) = encoded (encode F v) (items F e)
 actual (excludes F v f) = excluded (encode F v) (F .excluded v)
+actual (lacks F v) = excluded (encode F v) (F .excluded v)
 actual (reads F s is) = read (items F s)
 actual (converts F G s d a t) = converted (answerOf (strict F G s (length d))) (cellsOf (strict F G s (length d)) d)
 
 abbrev pub expected : Example → Result
 expected (encodes F v e) = encoded e (Character v (span 0 (length e)) ∷ [])
 expected (excludes F v f) = excluded [] (some f)
+expected (lacks F v) = excluded [] none
 expected (reads F s is) = read is
 expected (converts F G s d a t) = converted a t
 
--- FSS-UTF with a seventh row: its values pass 7FFFFFFF, which those of document 01's layouts do not
-abbrev sevenRows : Form
-sevenRows = formOf (byteLayout 6 7)
+-- FSS-UTF that excludes what UTF-16 does: of document 01's forms none has a sequence of a value that it excludes
+abbrev excluding : Form
+excluding =
+    formOf (record { rows = (byteLayout 6 6) .rows; low = (byteLayout 6 6) .low; radix = (byteLayout 6 6) .radix; excluded = utf16Layout .excluded })
 
 -- the input of document 01's listing
 abbrev listing : List ℕ
 listing = 0x41 ∷ 0xC2 ∷ 0xA9 ∷ 0x80 ∷ 0xE2 ∷ 0x89 ∷ 0x0A ∷ []
 
--- both sides of the limits, and of fault 8
+-- both sides of the limits
 abbrev pub byteEncodings : List Example
 byteEncodings =
     encodes fssUtf 0x7F (0x7F ∷ []) ∷
@@ -76,13 +81,16 @@ byteEncodings =
     encodes fssUtf 0x10000 (0xF0 ∷ 0x90 ∷ 0x80 ∷ 0x80 ∷ []) ∷
     encodes fssUtf 0x1FFFFF (0xF7 ∷ 0xBF ∷ 0xBF ∷ 0xBF ∷ []) ∷
     encodes fssUtf 0x200000 (0xF8 ∷ 0x88 ∷ 0x80 ∷ 0x80 ∷ 0x80 ∷ []) ∷
+    encodes fssUtf 0x7FFFFFFF (0xFD ∷ 0xBF ∷ 0xBF ∷ 0xBF ∷ 0xBF ∷ 0xBF ∷ []) ∷
+    lacks fssUtf 0x80000000 ∷
     encodes i8 0x9F (0x9F ∷ []) ∷
     encodes i8 0xA0 (0xC5 ∷ 0xA0 ∷ []) ∷
     encodes i8 0x3FFF (0xEF ∷ 0xBF ∷ 0xBF ∷ []) ∷
     encodes i8 0x4000 (0xF0 ∷ 0xB0 ∷ 0xA0 ∷ 0xA0 ∷ []) ∷
+    encodes i8 0x7FFFFFFF (0xFF ∷ 0xBF ∷ 0xBF ∷ 0xBF ∷ 0xBF ∷ 0xBF ∷ 0xBF ∷ []) ∷
+    lacks i8 0x80000000 ∷
     encodes utfEbcdic 0x3FFF (0xFB ∷ 0xFE ∷ 0xFE ∷ []) ∷
-    encodes sevenRows 0x7FFFFFFF (0xFD ∷ 0xBF ∷ 0xBF ∷ 0xBF ∷ 0xBF ∷ 0xBF ∷ []) ∷
-    excludes sevenRows 0x80000000 ValueTooLarge ∷
+    lacks utfEbcdic 0x80000000 ∷
     []
 
 pub byte-encodings-hold : map actual byteEncodings ≡ map expected byteEncodings
@@ -101,6 +109,7 @@ unitEncodings =
     encodes ucs4 0x0 (0x0 ∷ []) ∷
     encodes ucs4 0xD800 (0xD800 ∷ []) ∷
     encodes ucs4 0x7FFFFFFF (0x7FFFFFFF ∷ []) ∷
+    lacks ucs4 0x80000000 ∷
     []
 
 pub unit-encodings-hold : map actual unitEncodings ≡ map expected unitEncodings
@@ -126,7 +135,7 @@ carriedValues =
 pub carried-values-hold : map actual carriedValues ≡ map expected carriedValues
 carried-values-hold = refl
 
--- the listing; a short sequence and what follows it; units that take none; too long; fault 8
+-- the listing; a short sequence and what follows it; units that take none; too long; excluded, but not if too long
 abbrev pub readings : List Example
 readings =
     reads fssUtf listing
@@ -141,8 +150,8 @@ readings =
     reads utf16 (0xD800 ∷ 0xD800 ∷ 0xDC00 ∷ []) (Mark MissingTrailing (span 0 1) ∷ Character 0x10000 (span 1 2) ∷ []) ∷
     reads utf16 (0xD800 ∷ []) (Mark MissingTrailing (span 0 1) ∷ []) ∷
     reads ucs4 (0x80000000 ∷ 0x41 ∷ []) (Mark InvalidUnit (span 0 1) ∷ Character 0x41 (span 1 1) ∷ []) ∷
-    reads sevenRows (0xFE ∷ 0x82 ∷ 0x80 ∷ 0x80 ∷ 0x80 ∷ 0x80 ∷ 0x80 ∷ []) (Mark ValueTooLarge (span 0 7) ∷ []) ∷
-    reads sevenRows (0xFE ∷ 0x81 ∷ 0x80 ∷ 0x80 ∷ 0x80 ∷ 0x80 ∷ 0x80 ∷ []) (Mark Overlong (span 0 7) ∷ []) ∷
+    reads excluding (0xED ∷ 0xA0 ∷ 0x80 ∷ 0xEE ∷ 0x80 ∷ 0x80 ∷ []) (Mark Unrepresentable (span 0 3) ∷ Character 0xE000 (span 3 3) ∷ []) ∷
+    reads excluding (0xF0 ∷ 0x8D ∷ 0xA0 ∷ 0x80 ∷ []) (Mark Overlong (span 0 4) ∷ []) ∷
     []
 
 pub readings-hold : map actual readings ≡ map expected readings

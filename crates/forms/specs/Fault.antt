@@ -1,9 +1,10 @@
 -- Document 01, "Fault numbers".
 use Prim.Native.Nat.{ℕ}
 use Rattle.types.specs.declared.Fault.{Fault}
-use Rattle.types.specs.declared.Fault.the-variants.{SourceTooLong, MissingTrailing, StrayTrailing, InvalidUnit, Overlong, Unrepresentable, BufferTooShort, ValueTooLarge, OffsetOutOfRange}
+use Rattle.types.specs.declared.Fault.the-variants.{SourceTooLong, MissingTrailing, StrayTrailing, InvalidUnit, Overlong, Unrepresentable, BufferTooShort, OffsetOutOfRange}
 use Rattle.types.specs.declared.Refusal.{Refusal}
 
+-- 8 was a value above 7FFFFFFF, which no byte text gives; the number is not used again
 abbrev pub numberOf : Fault → ℕ
 numberOf SourceTooLong = 1
 numberOf MissingTrailing = 2
@@ -12,7 +13,6 @@ numberOf InvalidUnit = 4
 numberOf Overlong = 5
 numberOf Unrepresentable = 6
 numberOf BufferTooShort = 7
-numberOf ValueTooLarge = 8
 numberOf OffsetOutOfRange = 9
 
 -- a source of more code units is refused by fault 1

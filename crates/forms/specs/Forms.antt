@@ -6,7 +6,7 @@ use mathlib.Core.Option.{Option, none, some}
 use lib.ListN.{take}
 use lib.Dec.{ltb}
 use Rattle.types.specs.declared.Fault.{Fault}
-use Rattle.types.specs.declared.Fault.the-variants.{Unrepresentable, ValueTooLarge}
+use Rattle.types.specs.declared.Fault.the-variants.{Unrepresentable}
 use Rattle.forms.specs.Form.{Form}
 use Rattle.forms.specs.Layout.{Row, row, Layout, within, formOf, exchanged}
 use Rattle.forms.specs.Exchange.{i8Of, ebcdicOf}
@@ -16,14 +16,10 @@ abbrev pub byteRows : ℕ → List Row
 byteRows low =
     row 0x00 (low - 1) 0 ∷ row 0xC0 0xDF 0 ∷ row 0xE0 0xEF 0 ∷ row 0xF0 0xF7 0 ∷ row 0xF8 0xFB 0 ∷ row 0xFC 0xFD 0 ∷ row 0xFE 0xFF 0 ∷ []
 
--- "Values run from 0 to 7FFFFFFF."
-abbrev pub byteExcluded : ℕ → Option Fault
-byteExcluded v = cond (ltb 0x7FFFFFFF v) (some ValueTooLarge) none
-
--- the byte layout of so many free bits to a trailing byte, and of so many bytes to the longest item
+-- the byte layout of so many free bits to a trailing byte, and of so many bytes to the longest item; it excludes no value
 abbrev pub byteLayout : ℕ → ℕ → Layout
 byteLayout bits longest =
-    record { rows = take longest (byteRows (0xC0 - 2 ^ bits)); low = 0xC0 - 2 ^ bits; radix = 2 ^ bits; excluded = byteExcluded }
+    record { rows = take longest (byteRows (0xC0 - 2 ^ bits)); low = 0xC0 - 2 ^ bits; radix = 2 ^ bits; excluded = λ v. none }
 
 abbrev pub isSurrogate : ℕ → Bool
 isSurrogate v = within 0xD800 0xDFFF v

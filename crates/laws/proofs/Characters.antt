@@ -1,5 +1,5 @@
 -- Texts of well-formed characters: how they read, and that an accepted text is one.
-use Prim.Native.Nat.{ℕ, zero, suc, _+_, _≤_}
+use Prim.Native.Nat.{ℕ, zero, suc, _+_, _≤_, _<_}
 use mathlib.Core.Path.{_≡_, refl, sym, ap, _∙_, subst}
 use mathlib.Core.Logic.{_≢_}
 use mathlib.Core.Bool.{Bool, true, false, cond}
@@ -19,6 +19,14 @@ use Rattle.laws.specs.TwelvePairs.{Accepted}
 use Rattle.laws.specs.LayoutTable.{AllTrailing}
 use Rattle.laws.proofs.Sequences.{joined, taken-trailing, sequences-full, sequences-joined}
 use Rattle.laws.proofs.FormLaws.{Reads, Laws}
+
+-- a value that has a legal encoding lies below 80000000
+pub encodable-small : (F : Form) → Laws F → (v : ℕ) → encode F v ≢ [] → v < 0x80000000
+encodable-small F laws v n = go (encode F v) refl
+  where
+    go : (e : List ℕ) → encode F v ≡ e → v < 0x80000000
+    go [] e = absurd (n e)
+    go (u ∷ t) e = laws .small (sequence u t) v (laws .legal v (sequence u t) e)
 
 -- the characters of values, one behind the other from p on
 abbrev pub charactersFrom : Form → ℕ → List ℕ → List Item

@@ -9,7 +9,7 @@ use lib.Dec.{ltb}
 use borrow.Author.Tests.{le-ltb}
 use lib.ListN.{length}
 use Rattle.types.specs.declared.Fault.{Fault}
-use Rattle.types.specs.declared.Fault.the-variants.{Unrepresentable, ValueTooLarge}
+use Rattle.types.specs.declared.Fault.the-variants.{Unrepresentable}
 use Rattle.forms.specs.Fault.{limit}
 use Rattle.forms.specs.Form.{Form, encodeAll}
 use Rattle.forms.specs.Layout.{Layout}
@@ -37,24 +37,24 @@ only-fault false g f e = absurd (let z : _≡_ {A = ℕ} 0 1 = cc in omega arith
 one-fault : (b : Bool) (g f : Fault) → OwnFault g → cond b (some g) none ≡ some f → OwnFault f
 one-fault b g f o e = rw (only-fault b g f e) at o
 
-too-large : OwnFault ValueTooLarge
-too-large = other-number ValueTooLarge (λ e. omega arith) (λ e. omega arith)
+no-fault : (f : Fault) → none ≡ some f → OwnFault f
+no-fault f e = absurd (let z : _≡_ {A = ℕ} 0 1 = cc in omega arith)
 
 unheld : OwnFault Unrepresentable
 unheld = other-number Unrepresentable (λ e. omega arith) (λ e. omega arith)
 
 fssUtf-supplied : Supplied fssUtf (byteLayout 6 6)
-fssUtf-supplied = record { laws = fssUtf-laws; own = λ v f e. one-fault (ltb 0x7FFFFFFF v) ValueTooLarge f too-large e; writes = fssUtf-writes }
+fssUtf-supplied = record { laws = fssUtf-laws; own = λ v f e. no-fault f e; writes = fssUtf-writes }
 
 utfEbcdic-supplied : Supplied utfEbcdic (byteLayout 5 7)
-utfEbcdic-supplied = record { laws = utfEbcdic-laws; own = λ v f e. one-fault (ltb 0x7FFFFFFF v) ValueTooLarge f too-large e; writes = utfEbcdic-writes }
+utfEbcdic-supplied = record { laws = utfEbcdic-laws; own = λ v f e. no-fault f e; writes = utfEbcdic-writes }
 
 utf16-supplied : Supplied utf16 utf16Layout
 utf16-supplied =
     record { laws = utf16-laws; own = λ v f e. one-fault (isSurrogate v || ltb 0x10FFFF v) Unrepresentable f unheld e; writes = utf16-writes }
 
 ucs4-supplied : Supplied ucs4 ucs4Layout
-ucs4-supplied = record { laws = ucs4-laws; own = λ v f e. absurd (let z : _≡_ {A = ℕ} 0 1 = cc in omega arith); writes = ucs4-writes }
+ucs4-supplied = record { laws = ucs4-laws; own = λ v f e. no-fault f e; writes = ucs4-writes }
 
 pair :
     (F G : Form) (L M : Layout) → Supplied F L → Supplied G M → (a b : ℕ) → boundTests a b L M ≡ true → (most : ℕ → ℕ)

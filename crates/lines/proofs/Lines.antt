@@ -5,7 +5,7 @@ use mathlib.Core.List.{List, [], _∷_, _++_, append-assoc}
 use native.Mathlib.Omega.{arith}
 use lib.ListN.{length}
 use Rattle.types.specs.declared.Fault.{Fault}
-use Rattle.types.specs.declared.Fault.the-variants.{SourceTooLong, MissingTrailing, StrayTrailing, InvalidUnit, Overlong, Unrepresentable, BufferTooShort, ValueTooLarge, OffsetOutOfRange}
+use Rattle.types.specs.declared.Fault.the-variants.{SourceTooLong, MissingTrailing, StrayTrailing, InvalidUnit, Overlong, Unrepresentable, BufferTooShort, OffsetOutOfRange}
 use Rattle.types.specs.declared.Item.{Item}
 use Rattle.forms.specs.Fault.{numberOf}
 use Rattle.forms.specs.Form.{spanOf}
@@ -35,5 +35,4 @@ number-small InvalidUnit = omega arith
 number-small Overlong = omega arith
 number-small Unrepresentable = omega arith
 number-small BufferTooShort = omega arith
-number-small ValueTooLarge = omega arith
 number-small OffsetOutOfRange = omega arith

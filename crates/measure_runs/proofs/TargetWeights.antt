@@ -166,9 +166,7 @@ utfEbcdic-weighs =
     far x h z = omega arith
 
     some : (v : ℕ) → v < 0x110000 → encode utfEbcdic v ≢ []
-    some v h =
-        let x = not-excluded UtfEbcdic v (omega arith) in
-        rw x (utfEbcdic-laws .carries v (omega arith) x)
+    some v h = utfEbcdic-laws .carries v (omega arith) (not-excluded UtfEbcdic v (omega arith))
 
     long : (k v : ℕ) → v < 0x80000000 → k < 7 → lowestOf (layoutOf UtfEbcdic) k ≤ v → v < lowestOf (layoutOf UtfEbcdic) (suc k) → suc k ≡ length (encode utfEbcdic v)
     long k v s h l b = sym (encode-length UtfEbcdic v s k h l b)

@@ -8,7 +8,7 @@ use native.Mathlib.Omega.{arith}
 use native.Mathlib.Nat.{sub-zero}
 use lib.ListN.{length, length-map}
 use lib.Dec.{leb}
-use borrow.Author.Tests.{le-ltb, leb-true}
+use borrow.Author.Tests.{leb-true}
 use Rattle.forms.specs.Form.{Form, encode}
 use Rattle.forms.specs.Layout.{Layout, rowAt, rowLimit, lowestOf, spelled, formOf}
 use Rattle.forms.specs.Forms.{byteLayout}
@@ -60,13 +60,13 @@ row-bytes FssUtf k h = row-test (byteLayout 6 6) 6 refl k h
 row-bytes UtfEbcdic k h = row-test (byteLayout 5 7) 7 refl k h
 
 pub not-excluded : (f : ByteForm) (v : ℕ) → v < 0x80000000 → layoutOf f .excluded v ≡ none
-not-excluded FssUtf v h = rw (le-ltb 0x7FFFFFFF v (omega arith))
-not-excluded UtfEbcdic v h = rw (le-ltb 0x7FFFFFFF v (omega arith))
+not-excluded FssUtf v h = refl
+not-excluded UtfEbcdic v h = refl
 
 -- a byte form's encoding is the layout's, each byte as the form has it
 pub encode-plain : (f : ByteForm) (v : ℕ) → v < 0x80000000 → encode (byteForm f) v ≡ map (unitOf f) (formOf (layoutOf f) .shortest v)
-encode-plain FssUtf v h = rw (le-ltb 0x7FFFFFFF v (omega arith)) (sym (map-id (formOf (layoutOf FssUtf) .shortest v)))
-encode-plain UtfEbcdic v h = rw (le-ltb 0x7FFFFFFF v (omega arith))
+encode-plain FssUtf v h = sym (map-id (formOf (layoutOf FssUtf) .shortest v))
+encode-plain UtfEbcdic v h = refl
 
 module _ (f : ByteForm) (v : ℕ) (s : v < 0x80000000) where
   -- the number of trailing bytes is the least whose row the value fits

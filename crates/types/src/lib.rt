@@ -9,7 +9,6 @@ pub enum Fault {
     Overlong,
     Unrepresentable,
     BufferTooShort,
-    ValueTooLarge,
     OffsetOutOfRange,
 }
 
