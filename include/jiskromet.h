@@ -41,7 +41,7 @@ enum jk_fault {
     JK_OVERLONG = 5,
     JK_UNREPRESENTABLE = 6,    /* UTF-16 for D800 to DFFF and above 10FFFF */
     JK_BUFFER_TOO_SHORT = 7,
-    JK_VALUE_TOO_LARGE = 8,    /* no text gives it */
+    /* 8 is never used again: it was a value above 7FFFFFFF, which no text gives */
     JK_OFFSET_OUT_OF_RANGE = 9
 };
 
@@ -56,7 +56,6 @@ static inline const char *jk_fault_text(uint32_t fault) {
     case JK_OVERLONG: return "a sequence is longer than its value needs";
     case JK_UNREPRESENTABLE: return "the target form cannot hold the value";
     case JK_BUFFER_TOO_SHORT: return "a result buffer is too short for the whole result";
-    case JK_VALUE_TOO_LARGE: return "a value is above 7FFFFFFF";
     case JK_OFFSET_OUT_OF_RANGE: return "the asked offset lies beyond the text";
     default: return "a fault that this header does not know";
     }
@@ -93,7 +92,7 @@ typedef struct jk_conversion {
 
 /* Strict conversion. jk_F_to_G writes the text in the other form to the front of dst and leaves its rest untouched;
  * jk_F_to_G_length tells how many code units that takes, and gives no fault 7. A refusal (1; else the fault at the
- * lowest offset, 2 to 6 or 8; else 7) leaves all of dst as it was.
+ * lowest offset, 2 to 6; else 7) leaves all of dst as it was.
  *
  * JK_F_TO_G_ROOM(n) is the most code units that a text of n can take. It is a constant where n is one, it evaluates n
  * more than once, and from JK_MAX_UNITS on it stays the same, since longer texts are refused. */

@@ -14,7 +14,8 @@ use std::fmt;
 /// assert_eq!(Fault::Overlong.to_string(), "a sequence is longer than its value needs");
 /// ```
 ///
-/// Later deliveries may add faults.
+/// Later deliveries may add faults. The number 8 is never used again: it was a
+/// value above 7FFFFFFF, which no text gives.
 #[derive(Clone, Copy, Debug, PartialEq, Eq, Hash)]
 #[non_exhaustive]
 pub enum Fault {
@@ -33,8 +34,6 @@ pub enum Fault {
     Unrepresentable = 6,
     /// Fault 7: a result buffer is too short for the whole result.
     BufferTooShort = 7,
-    /// Fault 8: a byte form gives a value above 7FFFFFFF. No text does.
-    ValueTooLarge = 8,
     /// Fault 9: the asked offset lies beyond the text.
     OffsetOutOfRange = 9,
 }
@@ -53,6 +52,7 @@ impl Fault {
     ///
     /// assert_eq!(Fault::from_number(3), Some(Fault::StrayTrailing));
     /// assert_eq!(Fault::from_number(0), None);
+    /// assert_eq!(Fault::from_number(8), None);
     /// ```
     #[must_use]
     pub const fn from_number(number: u32) -> Option<Fault> {
@@ -64,7 +64,6 @@ impl Fault {
             5 => Fault::Overlong,
             6 => Fault::Unrepresentable,
             7 => Fault::BufferTooShort,
-            8 => Fault::ValueTooLarge,
             9 => Fault::OffsetOutOfRange,
             _ => return None,
         })
@@ -81,7 +80,6 @@ impl fmt::Display for Fault {
             Fault::Overlong => "a sequence is longer than its value needs",
             Fault::Unrepresentable => "the target form cannot hold the value",
             Fault::BufferTooShort => "a result buffer is too short for the whole result",
-            Fault::ValueTooLarge => "a value is above 7FFFFFFF",
             Fault::OffsetOutOfRange => "the asked offset lies beyond the text",
         })
     }

@@ -579,23 +579,21 @@ fn numbers_are_the_headers() {
 
 #[test]
 fn faults_have_their_numbers_and_words() {
-    let faults = [
-        Fault::SourceTooLong,
-        Fault::MissingTrailing,
-        Fault::StrayTrailing,
-        Fault::InvalidUnit,
-        Fault::Overlong,
-        Fault::Unrepresentable,
-        Fault::BufferTooShort,
-        Fault::ValueTooLarge,
-        Fault::OffsetOutOfRange,
-    ];
-    for (number, fault) in (1..).zip(faults) {
+    for (number, fault) in [
+        (1, Fault::SourceTooLong),
+        (2, Fault::MissingTrailing),
+        (3, Fault::StrayTrailing),
+        (4, Fault::InvalidUnit),
+        (5, Fault::Overlong),
+        (6, Fault::Unrepresentable),
+        (7, Fault::BufferTooShort),
+        (9, Fault::OffsetOutOfRange),
+    ] {
         assert_eq!(fault.number(), number);
         assert_eq!(Fault::from_number(number), Some(fault));
         assert!(HEADER.contains(&format!(": return \"{fault}\";")));
     }
-    for number in [0, 10, u32::MAX] {
+    for number in [0, 8, 10, u32::MAX] {
         assert_eq!(Fault::from_number(number), None);
     }
 

@@ -115,7 +115,6 @@ pub fn content<F: Form>(item: &[F::Unit]) -> Content {
         Role::Unused => Content::Mark(4),
         Role::Lead(length) if item.len() < length => Content::Mark(2),
         Role::Lead(_) => {
-            // Fault 8 cannot arise: no layout has more than 31 free bits.
             let value = F::join(item);
             let shortest = F::encode(value).is_some_and(|legal| *legal == *item);
             if shortest {

@@ -1,7 +1,7 @@
 -- Which units have no role, which values a target cannot hold, how many bits a byte form carries, and which faults marks have.
 use Prim.Native.Nat.{ℕ, zero, suc, _+_, _≤_, _<_}
 use mathlib.Core.Path.{_≡_, refl, sym, ap, _∙_}
-use mathlib.Core.Logic.{_≢_, _⊎_, inl, inr, _↔_}
+use mathlib.Core.Logic.{_≢_, _⊎_, inl, inr}
 use mathlib.Core.Bool.{Bool, true, false, not, cond, _||_}
 use mathlib.Core.List.{List, [], _∷_, map}
 use mathlib.Core.Option.{Option, none, some}
@@ -25,7 +25,7 @@ use Rattle.laws.proofs.LayoutLaws.{in-row, trailing-digit, value-small, value-l
 use Rattle.laws.proofs.AscendingRows.{leads-of-row}
 use Rattle.laws.proofs.Exchanged.{exchangedSequence}
 use Rattle.laws.proofs.FourForms.{fssUtf-fits, i8-fits, ucs4-fits, utf16-fits, utf16-rise, fssUtf-invalid, ucs4-invalid, low-alone, high-alone, high-unit, low-unit, fssUtf-laws, utfEbcdic-laws, utf16-laws, ucs4-laws}
-use Rattle.acceptance.specs.FaultNumbers.{Among, Marks, too-few, stray, no-role, too-long, NoRole, Held, ByteForms, Occurs}
+use Rattle.acceptance.specs.FaultNumbers.{Among, Marks, too-few, stray, no-role, too-long, NoRole, Held, ByteForms}
 use Rattle.acceptance.proofs.Marking.{Carries}
 
 -- 4: units without a role
@@ -131,21 +131,21 @@ free-bits =
     record {
       fss-utf =
           record {
-            long = λ c f. in-row (byteLayout 6 6) fssUtf-fits (c .first) (length (c .rest)) (f .leads) .inside;
-            value = value-small (byteLayout 6 6) fssUtf-fits;
-            highest = (sequence 0xFD (0xBF ∷ 0xBF ∷ 0xBF ∷ 0xBF ∷ 0xBF ∷ []), record { leads = refl; trail = (refl, (refl, (refl, (refl, (refl, tt))))) }, refl);
+            long = λ c f. omega (arith, in-row (byteLayout 6 6) fssUtf-fits (c .first) (length (c .rest)) (f .leads) .inside);
+            value = λ c f. omega (arith, value-small (byteLayout 6 6) fssUtf-fits c f);
+            highest = (sequence 0xFD (0xBF ∷ 0xBF ∷ 0xBF ∷ 0xBF ∷ 0xBF ∷ []), record { leads = refl; trail = (refl, (refl, (refl, (refl, (refl, tt))))) }, refl, refl);
           };
       i8-bytes =
           record {
-            long = λ c f. in-row (byteLayout 5 7) i8-fits (c .first) (length (c .rest)) (f .leads) .inside;
-            value = value-small (byteLayout 5 7) i8-fits;
-            highest = (sequence 0xFF (0xBF ∷ 0xBF ∷ 0xBF ∷ 0xBF ∷ 0xBF ∷ 0xBF ∷ []), record { leads = refl; trail = (refl, (refl, (refl, (refl, (refl, (refl, tt)))))) }, refl);
+            long = λ c f. omega (arith, in-row (byteLayout 5 7) i8-fits (c .first) (length (c .rest)) (f .leads) .inside);
+            value = λ c f. omega (arith, value-small (byteLayout 5 7) i8-fits c f);
+            highest = (sequence 0xFF (0xBF ∷ 0xBF ∷ 0xBF ∷ 0xBF ∷ 0xBF ∷ 0xBF ∷ []), record { leads = refl; trail = (refl, (refl, (refl, (refl, (refl, (refl, tt)))))) }, refl, refl);
           };
       utf-ebcdic =
           record {
-            long = λ c f. in-row (byteLayout 5 7) i8-fits (i8Of (c .first)) (length (c .rest)) (f .leads) .inside;
-            value = λ c f. value-small (byteLayout 5 7) i8-fits (exchangedSequence i8Of c) (full-i8 c f);
-            highest = (sequence 0xE1 (0xFE ∷ 0xFE ∷ 0xFE ∷ 0xFE ∷ 0xFE ∷ 0xFE ∷ []), record { leads = refl; trail = (refl, (refl, (refl, (refl, (refl, (refl, tt)))))) }, refl);
+            long = λ c f. omega (arith, in-row (byteLayout 5 7) i8-fits (i8Of (c .first)) (length (c .rest)) (f .leads) .inside);
+            value = λ c f. omega (arith, value-small (byteLayout 5 7) i8-fits (exchangedSequence i8Of c) (full-i8 c f));
+            highest = (sequence 0xE1 (0xFE ∷ 0xFE ∷ 0xFE ∷ 0xFE ∷ 0xFE ∷ 0xFE ∷ []), record { leads = refl; trail = (refl, (refl, (refl, (refl, (refl, (refl, tt)))))) }, refl, refl);
           };
     }
 
@@ -178,35 +178,25 @@ utf16-carries c f = go (c .first) (c .rest) f
 pub ucs4-carries : Carries ucs4
 ucs4-carries c f = refl
 
--- the table of faults
+-- the faults of marks, by form
+abbrev pub Row : Form → ℕ → List ℕ → Type 0
+Row F w ks = (u : ℕ) (us : List ℕ) (k : ℕ) → u < w → Marks F u us k → Among k ks
+
 not-empty : (e : List ℕ) → e ≢ [] → 1 ≤ length e
 not-empty [] n = absurd (n refl)
 not-empty (u ∷ e) n = omega arith
 
-fssUtf-faults : (u : ℕ) (us : List ℕ) (k : ℕ) → Marks fssUtf u us k → Among k (2 ∷ 3 ∷ 4 ∷ 5 ∷ [])
-fssUtf-faults u us k (too-few e n l h) = inl e
-fssUtf-faults u us k (stray e l) = inr (inl e)
-fssUtf-faults u us k (no-role e l) = inr (inr (inl e))
-fssUtf-faults u us k (too-long e n l w s h) = inr (inr (inr (inl e)))
+pub fssUtf-row : Row fssUtf 0x100 (2 ∷ 3 ∷ 4 ∷ 5 ∷ [])
+fssUtf-row u us k b (too-few e n l h) = inl e
+fssUtf-row u us k b (stray e l) = inr (inl e)
+fssUtf-row u us k b (no-role e l) = inr (inr (inl e))
+fssUtf-row u us k b (too-long e n l w s h) = inr (inr (inr (inl e)))
 
-fssUtf-occurs : (k : ℕ) → Among k (2 ∷ 3 ∷ 4 ∷ 5 ∷ []) → Occurs fssUtf 0x100 k
-fssUtf-occurs k (inl e) = (0xC2, [], omega arith, too-few e 1 refl (omega arith))
-fssUtf-occurs k (inr (inl e)) = (0x80, [], omega arith, stray e refl)
-fssUtf-occurs k (inr (inr (inl e))) = (0xFE, [], omega arith, no-role e refl)
-fssUtf-occurs k (inr (inr (inr (inl e)))) =
-    (0xC0, 0x80 ∷ [], omega arith, too-long e 1 refl refl (λ n. let z : _≡_ {A = ℕ} 0 1 = cc in omega arith) (omega arith))
-
-utfEbcdic-faults : (u : ℕ) (us : List ℕ) (k : ℕ) → u < 0x100 → Marks utfEbcdic u us k → Among k (2 ∷ 3 ∷ 5 ∷ [])
-utfEbcdic-faults u us k b (too-few e n l h) = inl e
-utfEbcdic-faults u us k b (stray e l) = inr (inl e)
-utfEbcdic-faults u us k b (no-role e l) = absurd (no-role-is .utf-ebcdic u b l)
-utfEbcdic-faults u us k b (too-long e n l w s h) = inr (inr (inl e))
-
-utfEbcdic-occurs : (k : ℕ) → Among k (2 ∷ 3 ∷ 5 ∷ []) → Occurs utfEbcdic 0x100 k
-utfEbcdic-occurs k (inl e) = (0x42, [], omega arith, too-few e 1 refl (omega arith))
-utfEbcdic-occurs k (inr (inl e)) = (0x80, [], omega arith, stray e refl)
-utfEbcdic-occurs k (inr (inr (inl e))) =
-    (0x42, 0x80 ∷ [], omega arith, too-long e 1 refl refl (λ n. let z : _≡_ {A = ℕ} 0 1 = cc in omega arith) (omega arith))
+pub utfEbcdic-row : Row utfEbcdic 0x100 (2 ∷ 3 ∷ 5 ∷ [])
+utfEbcdic-row u us k b (too-few e n l h) = inl e
+utfEbcdic-row u us k b (stray e l) = inr (inl e)
+utfEbcdic-row u us k b (no-role e l) = absurd (no-role-is .utf-ebcdic u b l)
+utfEbcdic-row u us k b (too-long e n l w s h) = inr (inr (inl e))
 
 -- a UTF-16 pair has a value of 10000 or more, which is spelled by no fewer units
 utf16-long :
@@ -230,34 +220,15 @@ utf16-long u us n l w s h = go n l w h (in-row utf16Layout utf16-fits u n l .ins
         )
     go (suc (suc n)) l w h i = omega arith
 
-utf16-faults : (u : ℕ) (us : List ℕ) (k : ℕ) → u < 0x10000 → Marks utf16 u us k → Among k (2 ∷ 3 ∷ [])
-utf16-faults u us k b (too-few e n l h) = inl e
-utf16-faults u us k b (stray e l) = inr (inl e)
-utf16-faults u us k b (no-role e l) = absurd (no-role-is .utf-16 u b l)
-utf16-faults u us k b (too-long e n l w s h) = absurd (utf16-long u us n l w s h)
+pub utf16-row : Row utf16 0x10000 (2 ∷ 3 ∷ [])
+utf16-row u us k b (too-few e n l h) = inl e
+utf16-row u us k b (stray e l) = inr (inl e)
+utf16-row u us k b (no-role e l) = absurd (no-role-is .utf-16 u b l)
+utf16-row u us k b (too-long e n l w s h) = absurd (utf16-long u us n l w s h)
 
-utf16-occurs : (k : ℕ) → Among k (2 ∷ 3 ∷ []) → Occurs utf16 0x10000 k
-utf16-occurs k (inl e) = (0xD800, [], omega arith, too-few e 1 refl (omega arith))
-utf16-occurs k (inr (inl e)) = (0xDC00, [], omega arith, stray e refl)
-
-ucs4-faults : (u : ℕ) (us : List ℕ) (k : ℕ) → Marks ucs4 u us k → Among k (4 ∷ [])
-ucs4-faults u us k (too-few e n l h) = absurd (omega (arith, in-row ucs4Layout ucs4-fits u n l .inside))
-ucs4-faults u us k (stray e l) = absurd (let d = trailing-digit ucs4Layout ucs4-fits u l in omega (arith, d .0, d .1))
-ucs4-faults u us k (no-role e l) = inl e
-ucs4-faults u us k (too-long e n l w s h) =
+pub ucs4-row : Row ucs4 0x100000000 (4 ∷ [])
+ucs4-row u us k b (too-few e n l h) = absurd (omega (arith, in-row ucs4Layout ucs4-fits u n l .inside))
+ucs4-row u us k b (stray e l) = absurd (let d = trailing-digit ucs4Layout ucs4-fits u l in omega (arith, d .0, d .1))
+ucs4-row u us k b (no-role e l) = inl e
+ucs4-row u us k b (too-long e n l w s h) =
     absurd (omega (arith, in-row ucs4Layout ucs4-fits u n l .inside, not-empty (ucs4 .shortest (ucs4 .value (firstOf ucs4 u us))) s))
-
-ucs4-occurs : (k : ℕ) → Among k (4 ∷ []) → Occurs ucs4 0x100000000 k
-ucs4-occurs k (inl e) = (0x80000000, [], omega arith, no-role e (ucs4-invalid 0x80000000 (omega arith)))
-
-pub fssUtf-occur : (k : ℕ) → Occurs fssUtf 0x100 k ↔ Among k (2 ∷ 3 ∷ 4 ∷ 5 ∷ [])
-fssUtf-occur k = ((λ w. fssUtf-faults (w .0) (w .1) k (w .3)), fssUtf-occurs k)
-
-pub utfEbcdic-occur : (k : ℕ) → Occurs utfEbcdic 0x100 k ↔ Among k (2 ∷ 3 ∷ 5 ∷ [])
-utfEbcdic-occur k = ((λ w. utfEbcdic-faults (w .0) (w .1) k (w .2) (w .3)), utfEbcdic-occurs k)
-
-pub utf16-occur : (k : ℕ) → Occurs utf16 0x10000 k ↔ Among k (2 ∷ 3 ∷ [])
-utf16-occur k = ((λ w. utf16-faults (w .0) (w .1) k (w .2) (w .3)), utf16-occurs k)
-
-pub ucs4-occur : (k : ℕ) → Occurs ucs4 0x100000000 k ↔ Among k (4 ∷ [])
-ucs4-occur k = ((λ w. ucs4-faults (w .0) (w .1) k (w .3)), ucs4-occurs k)

@@ -73,11 +73,11 @@ pub record Held : Type 0 where
   pub utf-16 : (v : ℕ) → v < 0x80000000 → (encode utf16 v ≡ []) ↔ (((0xD800 ≤ v) × (v ≤ 0xDFFF)) ⊎ (0x10FFFF < v))
   pub ucs-4 : (v : ℕ) → v < 0x80000000 → encode ucs4 v ≢ []
 
--- so many free bits at most, in so many bytes at most: a full sequence has a value below 2 to their power, and one has the highest
+-- a full sequence of F has so many bytes and carries so many free bits at most; one carries them all
 pub record FreeBits (F : Form) (bytes bits : ℕ) : Type 0 where
   pub long : (c : Sequence) → Full F c → size c ≤ bytes
   pub value : (c : Sequence) → Full F c → F .value c < 2 ^ bits
-  pub highest : (c : Sequence) × Full F c × (suc (F .value c) ≡ 2 ^ bits)
+  pub highest : (c : Sequence) × Full F c × (size c ≡ bytes) × (suc (F .value c) ≡ 2 ^ bits)
 
 -- request 107: "Six FSS-UTF bytes and seven I8 bytes carry 31 free bits at most", in UTF-EBCDIC after the exchange. So no byte text gives a
 -- value above 7FFFFFFF, and there is no fault 8.
@@ -86,19 +86,16 @@ pub record ByteForms : Type 0 where
   pub i8-bytes : FreeBits i8 7 31
   pub utf-ebcdic : FreeBits utfEbcdic 7 31
 
--- some text of units below w begins with a mark of the fault k
-abbrev pub Occurs : Form → ℕ → ℕ → Type 0
-Occurs F w k = (u : ℕ) × (us : List ℕ) × (u < w) × Marks F u us k
-
 -- the units of a lent text are below w
 abbrev pub Below : ℕ → List ℕ → Type 0
 Below w [] = Unit {0}
 Below w (u ∷ us) = (u < w) × Below w us
 
--- the marks of F have these faults and no others; so have those that its one-item reader gives
+-- the marks of F, as its one-item reader gives them: these faults and no others, and each of them for some text
 pub record Faults (F : Form) (w : ℕ) (ks : List ℕ) : Type 0 where
-  pub occur : (k : ℕ) → Occurs F w k ↔ Among k ks
-  pub read : (s : List ℕ) (q : ℕ) (r : JkItem) → Below w s → r ≡ itemAnswer (stepAt F s (cursor q)) → r .kind ≡ 2 → Among (r .fault) ks
+  pub only : (s : List ℕ) (q : ℕ) (r : JkItem) → Below w s → r ≡ itemAnswer (stepAt F s (cursor q)) → r .kind ≡ 2 → Among (r .fault) ks
+  pub each :
+      (k : ℕ) → Among k ks → (s : List ℕ) × Below w s × ((r : JkItem) → r ≡ itemAnswer (stepAt F s (cursor 0)) → (r .kind ≡ 2) × (r .fault ≡ k))
 
 pub record FaultTable : Type 0 where
   pub fss-utf : Faults fssUtf 0x100 (2 ∷ 3 ∷ 4 ∷ 5 ∷ [])
@@ -106,21 +103,25 @@ pub record FaultTable : Type 0 where
   pub utf-16 : Faults utf16 0x10000 (2 ∷ 3 ∷ [])
   pub ucs-4 : Faults ucs4 0x100000000 (4 ∷ [])
 
--- a conversion from F to G and its measure refuse an item by these numbers and no others
-pub record Only (F G : Form) (w : ℕ) (ks : List ℕ) : Type 0 where
+-- a conversion from F to G and its measure refuse an item by these numbers and no others, and by each of them for some text
+pub record Refusals (F G : Form) (w : ℕ) (ks : List ℕ) : Type 0 where
   pub converted : (s d : List ℕ) (r : JkConversion) (o : List ℕ) → Below w s → ConvertsInC F G s d r o → Among (r .fault) (0 ∷ 1 ∷ 7 ∷ ks)
   pub measured : (s : List ℕ) (r : JkConversion) → Below w s → MeasuresInC F G s r → Among (r .fault) (0 ∷ 1 ∷ ks)
+  pub each :
+      (k : ℕ) → Among k ks
+      → (s : List ℕ) × Below w s × ((d : List ℕ) (r : JkConversion) (o : List ℕ) → ConvertsInC F G s d r o → r .fault ≡ k)
+      × ((r : JkConversion) → MeasuresInC F G s r → r .fault ≡ k)
 
 pub record PairTable : Type 0 where
-  pub fss-utf-to-utf-ebcdic : Only fssUtf utfEbcdic 0x100 (2 ∷ 3 ∷ 4 ∷ 5 ∷ [])
-  pub fss-utf-to-utf-16 : Only fssUtf utf16 0x100 (2 ∷ 3 ∷ 4 ∷ 5 ∷ 6 ∷ [])
-  pub fss-utf-to-ucs-4 : Only fssUtf ucs4 0x100 (2 ∷ 3 ∷ 4 ∷ 5 ∷ [])
-  pub utf-ebcdic-to-fss-utf : Only utfEbcdic fssUtf 0x100 (2 ∷ 3 ∷ 5 ∷ [])
-  pub utf-ebcdic-to-utf-16 : Only utfEbcdic utf16 0x100 (2 ∷ 3 ∷ 5 ∷ 6 ∷ [])
-  pub utf-ebcdic-to-ucs-4 : Only utfEbcdic ucs4 0x100 (2 ∷ 3 ∷ 5 ∷ [])
-  pub utf-16-to-fss-utf : Only utf16 fssUtf 0x10000 (2 ∷ 3 ∷ [])
-  pub utf-16-to-utf-ebcdic : Only utf16 utfEbcdic 0x10000 (2 ∷ 3 ∷ [])
-  pub utf-16-to-ucs-4 : Only utf16 ucs4 0x10000 (2 ∷ 3 ∷ [])
-  pub ucs-4-to-fss-utf : Only ucs4 fssUtf 0x100000000 (4 ∷ [])
-  pub ucs-4-to-utf-ebcdic : Only ucs4 utfEbcdic 0x100000000 (4 ∷ [])
-  pub ucs-4-to-utf-16 : Only ucs4 utf16 0x100000000 (4 ∷ 6 ∷ [])
+  pub fss-utf-to-utf-ebcdic : Refusals fssUtf utfEbcdic 0x100 (2 ∷ 3 ∷ 4 ∷ 5 ∷ [])
+  pub fss-utf-to-utf-16 : Refusals fssUtf utf16 0x100 (2 ∷ 3 ∷ 4 ∷ 5 ∷ 6 ∷ [])
+  pub fss-utf-to-ucs-4 : Refusals fssUtf ucs4 0x100 (2 ∷ 3 ∷ 4 ∷ 5 ∷ [])
+  pub utf-ebcdic-to-fss-utf : Refusals utfEbcdic fssUtf 0x100 (2 ∷ 3 ∷ 5 ∷ [])
+  pub utf-ebcdic-to-utf-16 : Refusals utfEbcdic utf16 0x100 (2 ∷ 3 ∷ 5 ∷ 6 ∷ [])
+  pub utf-ebcdic-to-ucs-4 : Refusals utfEbcdic ucs4 0x100 (2 ∷ 3 ∷ 5 ∷ [])
+  pub utf-16-to-fss-utf : Refusals utf16 fssUtf 0x10000 (2 ∷ 3 ∷ [])
+  pub utf-16-to-utf-ebcdic : Refusals utf16 utfEbcdic 0x10000 (2 ∷ 3 ∷ [])
+  pub utf-16-to-ucs-4 : Refusals utf16 ucs4 0x10000 (2 ∷ 3 ∷ [])
+  pub ucs-4-to-fss-utf : Refusals ucs4 fssUtf 0x100000000 (4 ∷ [])
+  pub ucs-4-to-utf-ebcdic : Refusals ucs4 utfEbcdic 0x100000000 (4 ∷ [])
+  pub ucs-4-to-utf-16 : Refusals ucs4 utf16 0x100000000 (4 ∷ 6 ∷ [])

@@ -10,11 +10,11 @@ ghost use Rattle.forms.specs.Form.{spanOf};
 ghost use Rattle.forms.specs.Conversion.{refusalAt};
 ghost use Rattle.forms.specs.Lossy.{valueOf, markCount};
 
-// Document 01's number of a fault.
+// Document 01's number of a fault: they count on, and leave 8 out. A match with that gap would be a jump table in every call.
 pub fn number(fault: Fault) -> u32
     ensures { λ r. ⌜ r ≡ numberOf fault ⌝ }
 {
-    match fault {
+    let count: u32 = match fault {
         Fault::SourceTooLong => 1,
         Fault::MissingTrailing => 2,
         Fault::StrayTrailing => 3,
@@ -22,8 +22,9 @@ pub fn number(fault: Fault) -> u32
         Fault::Overlong => 5,
         Fault::Unrepresentable => 6,
         Fault::BufferTooShort => 7,
-        Fault::OffsetOutOfRange => 9,
-    }
+        Fault::OffsetOutOfRange => 8,
+    };
+    count + count / 8
 }
 
 pub fn span(item: Item) -> Span

@@ -1,5 +1,4 @@
 -- The rules agree with document 01's tables, as printed: the byte layouts, and the fault numbers.
-use Prim.Native.Nat.{ℕ}
 use mathlib.Core.Path.{_≡_, refl}
 use mathlib.Core.List.{List, [], _∷_, map}
 use Rattle.types.specs.declared.Fault.{Fault}

@@ -2,10 +2,9 @@
 use Prim.Native.Nat.{ℕ, _-_, _^_}
 use mathlib.Core.Bool.{Bool, cond, _||_}
 use mathlib.Core.List.{List, [], _∷_}
-use mathlib.Core.Option.{Option, none, some}
+use mathlib.Core.Option.{none, some}
 use lib.ListN.{take}
 use lib.Dec.{ltb}
-use Rattle.types.specs.declared.Fault.{Fault}
 use Rattle.types.specs.declared.Fault.the-variants.{Unrepresentable}
 use Rattle.forms.specs.Form.{Form}
 use Rattle.forms.specs.Layout.{Row, row, Layout, within, formOf, exchanged}

@@ -1,21 +1,21 @@
 -- What holds of both byte layouts and byte forms: each is one fact with the form as parameter.
-use Prim.Native.Nat.{ℕ, zero, suc, _+_, _≤_, _<_}
+use Prim.Native.Nat.{ℕ, suc, _+_, _≤_, _<_}
 use mathlib.Core.Path.{_≡_, refl, sym, ap, _∙_}
 use mathlib.Core.Bool.{true, _&&_}
-use mathlib.Core.List.{List, map, map-id}
+use mathlib.Core.List.{map, map-id}
 use mathlib.Core.Option.{none}
 use native.Mathlib.Omega.{arith}
 use native.Mathlib.Nat.{sub-zero}
 use lib.ListN.{length, length-map}
 use lib.Dec.{leb}
 use borrow.Author.Tests.{leb-true}
-use Rattle.forms.specs.Form.{Form, encode}
+use Rattle.forms.specs.Form.{encode}
 use Rattle.forms.specs.Layout.{Layout, rowAt, rowLimit, lowestOf, spelled, formOf}
 use Rattle.forms.specs.Forms.{byteLayout}
 use Rattle.laws.proofs.Table.{and-left, and-right, allBelow, below}
 use Rattle.laws.proofs.FormLaws.{Laws}
 use Rattle.laws.proofs.Digits.{spelledFrom}
-use Rattle.laws.proofs.LayoutLaws.{Fit, Spelling, spelling-below, length-shortest}
+use Rattle.laws.proofs.LayoutLaws.{Fit, spelling-below, length-shortest}
 use Rattle.laws.proofs.AscendingRows.{ascending, ascending-fits, limits-rise, row-of}
 use Rattle.laws.proofs.FourForms.{fssUtf-laws, utfEbcdic-laws}
 use Rattle.laws.proofs.LayoutTable.{between-spelled}

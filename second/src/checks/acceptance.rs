@@ -5,7 +5,7 @@ use super::conversion::ToOthers;
 use super::{character, each_form, from_i8, mark, one_character, three_ways};
 use crate::library::{JkItem, Linked};
 use crate::reference::{
-    Form, FssUtf, Layout, Reading, Role, Ucs4, Utf16, UtfEbcdic, FSS_UTF, HIGHEST_VALUE, I8,
+    Form, FssUtf, Reading, Role, Ucs4, Utf16, UtfEbcdic, FSS_UTF, HIGHEST_VALUE, I8,
     I8_TO_UTF_EBCDIC, UTF_EBCDIC_TO_I8,
 };
 use crate::report::Group;
@@ -17,7 +17,7 @@ pub fn check(group: &mut Group) {
     items(group);
     each_form!(carried(group));
     flags(group);
-    faults_that_cannot_be(group);
+    free_bits(group);
     each_form!(empty(group));
 }
 
@@ -301,10 +301,13 @@ fn flags(group: &mut Group) {
     }
 }
 
-/// No layout gives a value above 7FFFFFFF, so that fault 8 never comes, and
-/// each row's values begin where the row before ends.
-fn faults_that_cannot_be(group: &mut Group) {
-    let mut check = |layout: &Layout, name: &str| {
+/// Request 107: "Six FSS-UTF bytes and seven I8 bytes carry 31 free bits at
+/// most." Counted in the layouts, where each row's values begin where the row
+/// before ends; and asked of the library, for every first byte before more of
+/// the highest trailing bytes than it takes: no value is higher, and no fault
+/// is 8.
+fn free_bits(group: &mut Group) {
+    for (layout, name, longest) in [(&FSS_UTF, FssUtf::NAME, 6), (&I8, "I8", 7)] {
         let mut next = 0;
         for row in layout.rows {
             let lead_values = u64::from(row.last_lead - row.first_lead) + 1;
@@ -314,14 +317,28 @@ fn faults_that_cannot_be(group: &mut Group) {
                 row.lowest == next && highest == u64::from(row.highest),
                 || format!("{name} of {} bytes gives {highest:X} at most", row.length),
             );
-            group.check(highest <= u64::from(HIGHEST_VALUE), || {
+            group.check(row.length <= longest && highest >> 31 == 0, || {
                 format!("{name} of {} bytes gives {highest:X}", row.length)
             });
             next = row.highest + 1;
         }
-    };
-    check(&FSS_UTF, FssUtf::NAME);
-    check(&I8, "I8");
+    }
+
+    for first in 0..=0xFF {
+        let mut text = [0xBF; 9];
+        text[0] = first;
+        highest_value::<FssUtf>(group, &text);
+        text[1..].fill(I8_TO_UTF_EBCDIC[0xBF]);
+        highest_value::<UtfEbcdic>(group, &text);
+    }
+}
+
+fn highest_value<F: Linked<Unit = u8>>(group: &mut Group, text: &[u8]) {
+    group.agree::<F>(text, 0, "31 free bits");
+    let item = F::item_at(text, 0);
+    group.check(item.value <= HIGHEST_VALUE && item.fault != 8, || {
+        format!("31 free bits: {} {text:02X?} is {item:?}", F::NAME)
+    });
 }
 
 /// The empty text has no items.
