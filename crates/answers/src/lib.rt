@@ -10,7 +10,8 @@ ghost use Rattle.forms.specs.Form.{spanOf};
 ghost use Rattle.forms.specs.Conversion.{refusalAt};
 ghost use Rattle.forms.specs.Lossy.{valueOf, markCount};
 
-// Document 01's number of a fault: they count on, and leave 8 out. A match with that gap would be a jump table in every call.
+// Document 01's number of a fault. They count on, but for 8: (count + 24) / 32 is 1 from 8 on. A match with that gap is a jump table in every
+// call.
 pub fn number(fault: Fault) -> u32
     ensures { λ r. ⌜ r ≡ numberOf fault ⌝ }
 {
@@ -24,7 +25,7 @@ pub fn number(fault: Fault) -> u32
         Fault::BufferTooShort => 7,
         Fault::OffsetOutOfRange => 8,
     };
-    count + count / 8
+    count + (count + 24) / 32
 }
 
 pub fn span(item: Item) -> Span

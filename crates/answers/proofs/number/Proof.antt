@@ -1,6 +1,6 @@
-use Prim.Native.Nat.{ℕ, _+_, _/_, _≤_}
+use Prim.Native.Nat.{ℕ, _<_}
 use mathlib.Core.Path.{_≡_, refl}
-use mathlib.Core.Logic.{⊎-elim}
+use mathlib.Core.Logic.{_⊎_, inl, inr, ⊎-elim}
 use native.Mathlib.Omega.{arith}
 use Rattle.types.specs.declared.Fault.{Fault}
 use Rattle.types.specs.declared.Fault.the-variants.{SourceTooLong, MissingTrailing, StrayTrailing, InvalidUnit, Overlong, Unrepresentable, BufferTooShort, OffsetOutOfRange}
@@ -9,23 +9,23 @@ use borrow.Author.Needs.{needs}
 use Rattle.answers.proofs.number.Statement.{statement}
 use Rattle.answers.proofs.number.Tie as tie
 
--- the count of a fault gives its number
+-- a fault and its count
 abbrev Counts : Fault → ℕ → Type 0
-Counts f n = (n + n / 8 ≡ numberOf f) × (n ≤ 8)
+Counts f n = ((n < 8) × (n ≡ numberOf f)) ⊎ ((n ≡ 8) × (9 ≡ numberOf f))
 
-counts : {f : Fault} {n : ℕ} (g : Fault) (m : ℕ) → f ≡ g → n ≡ m → Counts g m → Counts f n
-counts g m p q c = rw (p, q) c
+counts : {f : Fault} {n m : ℕ} (g : Fault) → f ≡ g → n ≡ m → Counts g m → Counts f n
+counts g p q c = rw (p, q) c
 
 told : (c : tie.At-match-came) → Counts (c .before .args .fault) (c .match .count)
 told c =
-    ⊎-elim (λ w. counts SourceTooLong 1 (w .1 .given .1) (w .2) (refl, omega arith))
-    (⊎-elim (λ w. counts MissingTrailing 2 (w .1 .given .1) (w .2) (refl, omega arith))
-    (⊎-elim (λ w. counts StrayTrailing 3 (w .1 .given .1) (w .2) (refl, omega arith))
-    (⊎-elim (λ w. counts InvalidUnit 4 (w .1 .given .1) (w .2) (refl, omega arith))
-    (⊎-elim (λ w. counts Overlong 5 (w .1 .given .1) (w .2) (refl, omega arith))
-    (⊎-elim (λ w. counts Unrepresentable 6 (w .1 .given .1) (w .2) (refl, omega arith))
-    (⊎-elim (λ w. counts BufferTooShort 7 (w .1 .given .1) (w .2) (refl, omega arith))
-    (λ w. counts OffsetOutOfRange 8 (w .1 .given .1) (w .2) (refl, omega arith))))))))
+    ⊎-elim (λ w. counts SourceTooLong (w .1 .given .1) (w .2) (inl (omega arith, refl)))
+    (⊎-elim (λ w. counts MissingTrailing (w .1 .given .1) (w .2) (inl (omega arith, refl)))
+    (⊎-elim (λ w. counts StrayTrailing (w .1 .given .1) (w .2) (inl (omega arith, refl)))
+    (⊎-elim (λ w. counts InvalidUnit (w .1 .given .1) (w .2) (inl (omega arith, refl)))
+    (⊎-elim (λ w. counts Overlong (w .1 .given .1) (w .2) (inl (omega arith, refl)))
+    (⊎-elim (λ w. counts Unrepresentable (w .1 .given .1) (w .2) (inl (omega arith, refl)))
+    (⊎-elim (λ w. counts BufferTooShort (w .1 .given .1) (w .2) (inl (omega arith, refl)))
+    (λ w. counts OffsetOutOfRange (w .1 .given .1) (w .2) (inr (refl, refl)))))))))
     (c .match .came)
 
 enum-told : tie.Need-enum-told
@@ -53,10 +53,13 @@ enum-told-8 : tie.Need-enum-told-8
 enum-told-8 c = search needs
 
 add-result : tie.Need-add-result
-add-result c = omega (arith, told (c .before) .1)
+add-result c = ⊎-elim (λ w. omega (arith, w .0)) (λ w. omega (arith, w .0)) (told (c .before))
+
+add-result-2 : tie.Need-add-result-2
+add-result-2 c = ⊎-elim (λ w. omega (arith, w .0)) (λ w. omega (arith, w .0)) (told (c .before))
 
 returns : tie.Need-returns
-returns c = told (c .before) .0
+returns c = ⊎-elim (λ w. omega (arith, w .0, w .1)) (λ w. omega (arith, w .0, w .1)) (told (c .before))
 
 pub number-spec : {M : Type 1} → statement M
 number-spec =
@@ -71,4 +74,5 @@ number-spec =
     enum-told-7
     enum-told-8
     add-result
+    add-result-2
     returns)
