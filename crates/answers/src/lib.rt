@@ -10,8 +10,8 @@ ghost use Rattle.forms.specs.Form.{spanOf};
 ghost use Rattle.forms.specs.Conversion.{refusalAt};
 ghost use Rattle.forms.specs.Lossy.{valueOf, markCount};
 
-// Document 01's number of a fault. They count on, but for 8: (count + 24) / 32 is 1 from 8 on. A match with that gap is a jump table in every
-// call.
+// Document 01's number of a fault. The numbers run on but for 8, and (count + 24) / 32 adds 1 from there on: a match with the gap in it would be
+// a jump table in every call.
 pub fn number(fault: Fault) -> u32
     ensures { λ r. ⌜ r ≡ numberOf fault ⌝ }
 {
