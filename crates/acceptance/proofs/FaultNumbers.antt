@@ -1,5 +1,5 @@
 -- Which units have no role, which values a target cannot hold, how many bits a byte form carries, and which faults marks have.
-use Prim.Native.Nat.{ℕ, zero, suc, _+_, _≤_, _<_}
+use Prim.Native.Nat.{ℕ, zero, suc, _+_, _^_, _≤_, _<_}
 use mathlib.Core.Path.{_≡_, refl, sym, ap, _∙_}
 use mathlib.Core.Logic.{_≢_, _⊎_, inl, inr}
 use mathlib.Core.Bool.{Bool, true, false, not, cond, _||_}
@@ -11,8 +11,8 @@ use lib.Dec.{ltb}
 use borrow.Author.Tests.{le-ltb, lt-ltb, not-true}
 use lib.ListN.{length, length-map}
 use Rattle.types.specs.declared.Fault.the-variants.{Unrepresentable}
-use Rattle.forms.specs.Form.{Role, lead, trailing, invalid, Sequence, sequence, Form, asked, taken, firstOf, unless, encode}
-use Rattle.forms.specs.Layout.{rowAt}
+use Rattle.forms.specs.Form.{Role, lead, trailing, invalid, Sequence, sequence, size, Form, asked, taken, firstOf, unless, encode}
+use Rattle.forms.specs.Layout.{Layout, rowAt, valueOf, formOf}
 use Rattle.forms.specs.Exchange.{i8Of}
 use Rattle.forms.specs.Forms.{byteLayout, isSurrogate, utf16Layout, ucs4Layout, fssUtf, i8, utfEbcdic, utf16, ucs4}
 use Rattle.laws.proofs.FormLaws.{Laws}
@@ -21,11 +21,11 @@ use Rattle.laws.proofs.Rows.{within-in, within-below, within-above, lead-inject
 use Rattle.laws.specs.LayoutTable.{Full, AllTrailing}
 use Rattle.laws.proofs.Sequences.{taken-trailing}
 use Rattle.laws.proofs.Characters.{encodable-small}
-use Rattle.laws.proofs.LayoutLaws.{in-row, trailing-digit, value-small, value-limit, full-spelling, length-shortest, at-least}
+use Rattle.laws.proofs.LayoutLaws.{Fit, in-row, trailing-digit, value-small, value-limit, full-spelling, length-shortest, at-least}
 use Rattle.laws.proofs.AscendingRows.{leads-of-row}
 use Rattle.laws.proofs.Exchanged.{exchangedSequence}
 use Rattle.laws.proofs.FourForms.{fssUtf-fits, i8-fits, ucs4-fits, utf16-fits, utf16-rise, fssUtf-invalid, ucs4-invalid, low-alone, high-alone, high-unit, low-unit, fssUtf-laws, utfEbcdic-laws, utf16-laws, ucs4-laws}
-use Rattle.acceptance.specs.FaultNumbers.{Among, Marks, too-few, stray, no-role, too-long, NoRole, Held, ByteForms}
+use Rattle.acceptance.specs.FaultNumbers.{Among, Marks, too-few, stray, no-role, too-long, NoRole, Held, FreeBits, ByteForms}
 use Rattle.acceptance.proofs.Marking.{Carries}
 
 -- 4: units without a role
@@ -118,7 +118,18 @@ values-held =
       ucs-4 = λ v h. carried-by ucs4 ucs4-laws v h refl;
     }
 
--- 31 free bits: a full sequence of UTF-EBCDIC is one of I8, exchanged
+-- the free bits of a layout, by a sequence that has them all
+layout-bits :
+    (L : Layout) → Fit L → (c : Sequence) → Full (formOf L) c → size c ≡ length (L .rows) → suc (valueOf L c) ≡ 0x80000000
+    → (bytes bits : ℕ) → length (L .rows) ≡ bytes → 0x80000000 ≡ 2 ^ bits → FreeBits (formOf L) bytes bits
+layout-bits L fits c full all top bytes bits p q =
+    record {
+      long = λ d f. omega (arith, p, in-row L fits (d .first) (length (d .rest)) (f .leads) .inside);
+      value = λ d f. omega (arith, q, value-small L fits d f);
+      highest = (c, full, all ∙ p, top ∙ q);
+    }
+
+-- a full sequence of UTF-EBCDIC is one of I8, exchanged
 trail-to : (t : List ℕ) → AllTrailing utfEbcdic t → AllTrailing i8 (map i8Of t)
 trail-to [] a = tt
 trail-to (x ∷ xs) a = (a .0, trail-to xs (a .1))
@@ -126,27 +137,35 @@ trail-to (x ∷ xs) a = (a .0, trail-to xs (a .1))
 full-i8 : (c : Sequence) → Full utfEbcdic c → Full i8 (exchangedSequence i8Of c)
 full-i8 c f = record { leads = rw (length-map (c .rest) i8Of) (f .leads); trail = trail-to (c .rest) (f .trail) }
 
+fssUtf-bits : (bytes bits : ℕ) → 6 ≡ bytes → 0x80000000 ≡ 2 ^ bits → FreeBits fssUtf bytes bits
+fssUtf-bits =
+    layout-bits (byteLayout 6 6) fssUtf-fits (sequence 0xFD (0xBF ∷ 0xBF ∷ 0xBF ∷ 0xBF ∷ 0xBF ∷ []))
+    (record { leads = refl; trail = (refl, (refl, (refl, (refl, (refl, tt))))) }) refl refl
+
+i8-bits : (bytes bits : ℕ) → 7 ≡ bytes → 0x80000000 ≡ 2 ^ bits → FreeBits i8 bytes bits
+i8-bits =
+    layout-bits (byteLayout 5 7) i8-fits (sequence 0xFF (0xBF ∷ 0xBF ∷ 0xBF ∷ 0xBF ∷ 0xBF ∷ 0xBF ∷ []))
+    (record { leads = refl; trail = (refl, (refl, (refl, (refl, (refl, (refl, tt)))))) }) refl refl
+
+utfEbcdic-bits : (bytes bits : ℕ) → 7 ≡ bytes → 0x80000000 ≡ 2 ^ bits → FreeBits utfEbcdic bytes bits
+utfEbcdic-bits bytes bits p q =
+    record {
+      long = λ d f. omega (arith, i8-bits bytes bits p q .long (exchangedSequence i8Of d) (full-i8 d f), length-map (d .rest) i8Of);
+      value = λ d f. i8-bits bytes bits p q .value (exchangedSequence i8Of d) (full-i8 d f);
+      highest = (
+        sequence 0xE1 (0xFE ∷ 0xFE ∷ 0xFE ∷ 0xFE ∷ 0xFE ∷ 0xFE ∷ []),
+        record { leads = refl; trail = (refl, (refl, (refl, (refl, (refl, (refl, tt)))))) },
+        p,
+        q,
+      );
+    }
+
 pub free-bits : ByteForms
 free-bits =
     record {
-      fss-utf =
-          record {
-            long = λ c f. omega (arith, in-row (byteLayout 6 6) fssUtf-fits (c .first) (length (c .rest)) (f .leads) .inside);
-            value = λ c f. omega (arith, value-small (byteLayout 6 6) fssUtf-fits c f);
-            highest = (sequence 0xFD (0xBF ∷ 0xBF ∷ 0xBF ∷ 0xBF ∷ 0xBF ∷ []), record { leads = refl; trail = (refl, (refl, (refl, (refl, (refl, tt))))) }, refl, refl);
-          };
-      i8-bytes =
-          record {
-            long = λ c f. omega (arith, in-row (byteLayout 5 7) i8-fits (c .first) (length (c .rest)) (f .leads) .inside);
-            value = λ c f. omega (arith, value-small (byteLayout 5 7) i8-fits c f);
-            highest = (sequence 0xFF (0xBF ∷ 0xBF ∷ 0xBF ∷ 0xBF ∷ 0xBF ∷ 0xBF ∷ []), record { leads = refl; trail = (refl, (refl, (refl, (refl, (refl, (refl, tt)))))) }, refl, refl);
-          };
-      utf-ebcdic =
-          record {
-            long = λ c f. omega (arith, in-row (byteLayout 5 7) i8-fits (i8Of (c .first)) (length (c .rest)) (f .leads) .inside);
-            value = λ c f. omega (arith, value-small (byteLayout 5 7) i8-fits (exchangedSequence i8Of c) (full-i8 c f));
-            highest = (sequence 0xE1 (0xFE ∷ 0xFE ∷ 0xFE ∷ 0xFE ∷ 0xFE ∷ 0xFE ∷ []), record { leads = refl; trail = (refl, (refl, (refl, (refl, (refl, (refl, tt)))))) }, refl, refl);
-          };
+      fss-utf = fssUtf-bits _ _ refl refl;
+      i8-bytes = i8-bits _ _ refl refl;
+      utf-ebcdic = utfEbcdic-bits _ _ refl refl;
     }
 
 -- no full sequence has a value that its form excludes

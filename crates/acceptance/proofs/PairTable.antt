@@ -19,11 +19,11 @@ use Rattle.c_answers.specs.Answer.{conversionAnswer}
 use Rattle.acceptance.specs.FaultNumbers.{Among, strictFaults, Refuses, marked, unheld, Below, Refusals, PairTable}
 use Rattle.acceptance.specs.Condition2.{FirstFault, Exactly}
 use Rattle.acceptance.proofs.Numbers.{has, among, allIn, all-in}
-use Rattle.acceptance.proofs.FaultNumbers.{values-held, Row, fssUtf-row, utfEbcdic-row, utf16-row, ucs4-row}
-use Rattle.acceptance.proofs.Each.{Known, known}
+use Rattle.acceptance.proofs.FaultNumbers.{values-held, Row}
+use Rattle.acceptance.proofs.Each.{Known}
 use Rattle.acceptance.proofs.Condition1.{conversion-call, measure-call}
 use Rattle.acceptance.proofs.Condition2.{conversion, measure}
-use Rattle.acceptance.proofs.FaultTable.{Marked, fssUtf-marked, utfEbcdic-marked, utf16-marked, ucs4-marked}
+use Rattle.acceptance.proofs.FaultTable.{Marked, Source, fssUtf-source, utfEbcdic-source, utf16-source, ucs4-source}
 
 below-at : (w : ℕ) (xs : List ℕ) (u : ℕ) (us : List ℕ) → Below w (xs ++ (u ∷ us)) → u < w
 below-at w [] u us b = b .0
@@ -85,20 +85,16 @@ module _ (F G : Form) (most : ℕ → ℕ) (pair : Pair F G most) (known-so : Kn
         less s r b x (inr (inl a)) = inr (inl a)
         less s r b x (inr (inr a)) = inr (inr (item s r b x a))
 
--- a source, with the faults of its marks
-record Source (F : Form) (w : ℕ) (ms : List ℕ) : Type 0 where
-  pub known-so : Known F
-  pub row : Row F w ms
-  pub marked-by : (k : ℕ) → Among k ms → Marked F w k
-  pub small : (v : ℕ) → encode F v ≢ [] → v < 0x80000000
-
 by-mark : {F : Form} (G : Form) {w k : ℕ} → Marked F w k → Refused F G w k
 by-mark G m = record { text = m .text; below = m .below; fault = m .fault; number = m .number; turned = m .turned G }
 
--- a target that holds every value
-to-any : {F G : Form} {most : ℕ → ℕ} {w : ℕ} {ms : List ℕ} → Source F w ms → Pair F G most → ((v : ℕ) → v < 0x80000000 → encode G v ≢ []) → allIn ms ms ≡ true → Refusals F G w ms
-to-any {F} {G} {most} {w} {ms} a p holds both =
-    refusals F G most p (a .known-so) w ms ms (a .row) both (λ v n e. absurd (holds v (a .small v n) e)) (λ k m. by-mark G (a .marked-by k m))
+-- a target that holds every value: the faults of the source's marks, and no others
+to-any :
+    {F G : Form} {most : ℕ → ℕ} {w : ℕ} {ms : List ℕ} (ks : List ℕ) → Source F w ms → Pair F G most → ((v : ℕ) → v < 0x80000000 → encode G v ≢ [])
+    → allIn ms ks ≡ true → allIn ks ms ≡ true → Refusals F G w ks
+to-any {F} {G} {most} {w} {ms} ks a p holds all none-else =
+    refusals F G most p (a .known-so) w ms ks (a .row) all (λ v n e. absurd (holds v (a .small v n) e))
+    (λ k m. by-mark G (a .marked-by k (all-in k ks ms none-else m)))
 
 either : (k : ℕ) (ms : List ℕ) → Among k (ms ++ (6 ∷ [])) → Among k ms ⊎ (k ≡ 6)
 either k [] (inl e) = inr e
@@ -109,28 +105,17 @@ either k (m ∷ ms) (inr a) = go (either k ms a)
     go (inl b) = inl (inr b)
     go (inr e) = inr e
 
--- one that does not
+-- one that does not: 6 besides
 to-utf16 :
-    {F : Form} {most : ℕ → ℕ} {w : ℕ} {ms : List ℕ} → Source F w ms → Pair F utf16 most → Refused F utf16 w 6 → allIn ms (ms ++ (6 ∷ [])) ≡ true → has 6 (ms ++ (6 ∷ [])) ≡ true
-    → Refusals F utf16 w (ms ++ (6 ∷ []))
-to-utf16 {F} {most} {w} {ms} a p large both six =
-    refusals F utf16 most p (a .known-so) w ms (ms ++ (6 ∷ [])) (a .row) both (λ v n e. among 6 6 (ms ++ (6 ∷ [])) six refl) (λ k m. go k (either k ms m))
+    {F : Form} {most : ℕ → ℕ} {w : ℕ} {ms : List ℕ} (ks : List ℕ) → Source F w ms → Pair F utf16 most → Refused F utf16 w 6 → allIn ms ks ≡ true → has 6 ks ≡ true
+    → allIn ks (ms ++ (6 ∷ [])) ≡ true → Refusals F utf16 w ks
+to-utf16 {F} {most} {w} {ms} ks a p large all six none-else =
+    refusals F utf16 most p (a .known-so) w ms ks (a .row) all (λ v n e. among 6 6 ks six refl)
+    (λ k m. go k (either k ms (all-in k ks (ms ++ (6 ∷ [])) none-else m)))
   where
     go : (k : ℕ) → Among k ms ⊎ (k ≡ 6) → Refused F utf16 w k
     go k (inl m) = by-mark utf16 (a .marked-by k m)
     go k (inr e) = record { text = large .text; below = large .below; fault = large .fault; number = large .number ∙ sym e; turned = large .turned }
-
-fssUtf-source : Source fssUtf 0x100 (2 ∷ 3 ∷ 4 ∷ 5 ∷ [])
-fssUtf-source = record { known-so = known .fss-utf; row = fssUtf-row; marked-by = fssUtf-marked; small = values-held .values .fss-utf }
-
-utfEbcdic-source : Source utfEbcdic 0x100 (2 ∷ 3 ∷ 5 ∷ [])
-utfEbcdic-source = record { known-so = known .utf-ebcdic; row = utfEbcdic-row; marked-by = utfEbcdic-marked; small = values-held .values .utf-ebcdic }
-
-utf16-source : Source utf16 0x10000 (2 ∷ 3 ∷ [])
-utf16-source = record { known-so = known .utf-16; row = utf16-row; marked-by = utf16-marked; small = values-held .values .utf-16 }
-
-ucs4-source : Source ucs4 0x100000000 (4 ∷ [])
-ucs4-source = record { known-so = known .ucs-4; row = ucs4-row; marked-by = ucs4-marked; small = values-held .values .ucs-4 }
 
 -- 110000, of each form that has it
 fssUtf-large : Refused fssUtf utf16 0x100 6
@@ -159,16 +144,16 @@ ucs4-large = record { text = 0x110000 ∷ []; below = (omega arith, tt); fault =
 pub pair-table : PairTable
 pair-table =
     record {
-      fss-utf-to-utf-ebcdic = to-any fssUtf-source fssUtf-utfEbcdic (values-held .utf-ebcdic) refl;
-      fss-utf-to-utf-16 = to-utf16 fssUtf-source fssUtf-utf16 fssUtf-large refl refl;
-      fss-utf-to-ucs-4 = to-any fssUtf-source fssUtf-ucs4 (values-held .ucs-4) refl;
-      utf-ebcdic-to-fss-utf = to-any utfEbcdic-source utfEbcdic-fssUtf (values-held .fss-utf) refl;
-      utf-ebcdic-to-utf-16 = to-utf16 utfEbcdic-source utfEbcdic-utf16 utfEbcdic-large refl refl;
-      utf-ebcdic-to-ucs-4 = to-any utfEbcdic-source utfEbcdic-ucs4 (values-held .ucs-4) refl;
-      utf-16-to-fss-utf = to-any utf16-source utf16-fssUtf (values-held .fss-utf) refl;
-      utf-16-to-utf-ebcdic = to-any utf16-source utf16-utfEbcdic (values-held .utf-ebcdic) refl;
-      utf-16-to-ucs-4 = to-any utf16-source utf16-ucs4 (values-held .ucs-4) refl;
-      ucs-4-to-fss-utf = to-any ucs4-source ucs4-fssUtf (values-held .fss-utf) refl;
-      ucs-4-to-utf-ebcdic = to-any ucs4-source ucs4-utfEbcdic (values-held .utf-ebcdic) refl;
-      ucs-4-to-utf-16 = to-utf16 ucs4-source ucs4-utf16 ucs4-large refl refl;
+      fss-utf-to-utf-ebcdic = to-any _ fssUtf-source fssUtf-utfEbcdic (values-held .utf-ebcdic) refl refl;
+      fss-utf-to-utf-16 = to-utf16 _ fssUtf-source fssUtf-utf16 fssUtf-large refl refl refl;
+      fss-utf-to-ucs-4 = to-any _ fssUtf-source fssUtf-ucs4 (values-held .ucs-4) refl refl;
+      utf-ebcdic-to-fss-utf = to-any _ utfEbcdic-source utfEbcdic-fssUtf (values-held .fss-utf) refl refl;
+      utf-ebcdic-to-utf-16 = to-utf16 _ utfEbcdic-source utfEbcdic-utf16 utfEbcdic-large refl refl refl;
+      utf-ebcdic-to-ucs-4 = to-any _ utfEbcdic-source utfEbcdic-ucs4 (values-held .ucs-4) refl refl;
+      utf-16-to-fss-utf = to-any _ utf16-source utf16-fssUtf (values-held .fss-utf) refl refl;
+      utf-16-to-utf-ebcdic = to-any _ utf16-source utf16-utfEbcdic (values-held .utf-ebcdic) refl refl;
+      utf-16-to-ucs-4 = to-any _ utf16-source utf16-ucs4 (values-held .ucs-4) refl refl;
+      ucs-4-to-fss-utf = to-any _ ucs4-source ucs4-fssUtf (values-held .fss-utf) refl refl;
+      ucs-4-to-utf-ebcdic = to-any _ ucs4-source ucs4-utfEbcdic (values-held .utf-ebcdic) refl refl;
+      ucs-4-to-utf-16 = to-utf16 _ ucs4-source ucs4-utf16 ucs4-large refl refl refl;
     }

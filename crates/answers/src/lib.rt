@@ -11,7 +11,7 @@ ghost use Rattle.forms.specs.Conversion.{refusalAt};
 ghost use Rattle.forms.specs.Lossy.{valueOf, markCount};
 
 // Document 01's number of a fault. The numbers run on but for 8, and (count + 24) / 32 adds 1 from there on: a match with the gap in it would be
-// a jump table in every call.
+// a jump table in most exports.
 pub fn number(fault: Fault) -> u32
     ensures { λ r. ⌜ r ≡ numberOf fault ⌝ }
 {
