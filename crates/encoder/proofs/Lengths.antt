@@ -40,3 +40,9 @@ counting-more f v k n s c e l = record { inside = go (decLt (k + 1) (length (lay
 
 pub counting-end : (f : ByteForm) (v k n : ℕ) → v < 0x80000000 → Counting f v k → n ≡ lowestOf (layoutOf f) (k + 1) → v < n → length (encode (byteForm f) v) ≡ k + 1
 counting-end f v k n s c e l = encode-length f v s k (c .inside) (c .least) (rw (add-one k) at (rw e at l)) ∙ sym (add-one k)
+
+-- where six trailing bytes are the least there is no longer length
+pub counting-last : (f : ByteForm) (v : ℕ) → v < 0x80000000 → Counting f v 6 → length (encode (byteForm f) v) ≡ 7
+counting-last f v s c =
+    let q : length (layoutOf f .rows) ≡ 7 = omega (arith, c .inside, rows f) in
+    counting-end f v 6 0x80000000 s c (rw q at (sym (top f))) s

@@ -19,11 +19,30 @@ fn trailing(form: ByteForm, value: u32) -> usize
     count
 }
 
+// The same without a loop, for those who ask it of each character: a constant table costs nothing where the compiler knows the index.
 pub fn encoded_length(form: ByteForm, value: u32) -> usize
     requires { ⌜ value < 0x80000000 ⌝ }
     ensures { λ r. ⌜ r ≡ length (encode (byteForm form) value) ⌝ }
 {
-    trailing(form, value) + 1
+    if value < tables::lowest(form, 1) {
+        return 1;
+    }
+    if value < tables::lowest(form, 2) {
+        return 2;
+    }
+    if value < tables::lowest(form, 3) {
+        return 3;
+    }
+    if value < tables::lowest(form, 4) {
+        return 4;
+    }
+    if value < tables::lowest(form, 5) {
+        return 5;
+    }
+    if value < tables::lowest(form, 6) {
+        return 6;
+    }
+    7
 }
 
 // Writes the encoding from an offset on, its last byte first, and answers the offset behind it.

@@ -39,7 +39,7 @@ fn distance_back(form: ByteForm, near: &[u8]) -> usize
     let mut at = near.len();
     while 0 < at {
         at -= 1;
-        let role = tables::role(form, near[at]) as usize;
+        let role = tables::role(form, tables::plain(form, near[at])) as usize;
         if role != 9 {
             if passed < role {
                 return passed;

@@ -15,7 +15,7 @@ use Rattle.laws.proofs.ExchangeTable.{exchange-byte}
 use Rattle.tables.specs.ByteForms.{byteForm, layoutOf, plainOf, roleNumber}
 use Rattle.tables.specs.declared.ByteForm.{ByteForm}
 use Rattle.tables.specs.declared.ByteForm.the-variants.{FssUtf, UtfEbcdic}
-use Rattle.tables.proofs.Agreement.{most-rows}
+use Rattle.tables.proofs.Agreement.{most-rows, plain-role}
 use Rattle.tables.proofs.ByteLayouts.{fits}
 
 abbrev pub plainText : ByteForm → List ℕ → List ℕ
@@ -32,10 +32,6 @@ map-drop : (g : ℕ → ℕ) (n : ℕ) (s : List ℕ) → map g (drop n s) ≡ d
 map-drop g zero s = refl
 map-drop g (suc n) [] = refl
 map-drop g (suc n) (x ∷ s) = map-drop g n s
-
-pub plain-role : (f : ByteForm) (b : ℕ) → byteForm f .role b ≡ roleOf (layoutOf f) (plainOf f b)
-plain-role FssUtf b = refl
-plain-role UtfEbcdic b = refl
 
 first-plain : (f : ByteForm) (p u : ℕ) (us : List ℕ) → itemOf (formOf (layoutOf f)) p (firstOf (formOf (layoutOf f)) (plainOf f u) (map (plainOf f) us))
     ≡ itemOf (byteForm f) p (firstOf (byteForm f) u us)

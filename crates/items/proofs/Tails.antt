@@ -15,8 +15,9 @@ use Rattle.laws.proofs.LayoutLaws.{trailing-digit}
 use Rattle.tables.specs.ByteForms.{byteForm, layoutOf, plainOf, roleNumber}
 use Rattle.tables.specs.declared.ByteForm.{ByteForm}
 use Rattle.items.specs.Tail.{TailIs}
+use Rattle.tables.proofs.Agreement.{plain-role}
 use Rattle.tables.proofs.ByteLayouts.{fits, radix-positive}
-use Rattle.items.proofs.Plain.{plainText, plain-length, plain-at, plain-role, role-trailing, role-other}
+use Rattle.items.proofs.Plain.{plainText, plain-length, plain-at, role-trailing, role-other}
 
 power-suc : (a R m : ℕ) → (a + 1) * R ^ suc m ≡ (a + 1) * R * R ^ m
 power-suc a R m = ap (λ (x : ℕ). (a + 1) * x) (pow-succ' R m) ∙ sym (mul-assoc (a + 1) R (R ^ m))

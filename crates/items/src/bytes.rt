@@ -36,11 +36,11 @@ fn tail_at(form: ByteForm, text: &[u8], from: usize, asked: usize, lead: u32) ->
         if text.len() <= at {
             return Tail { count, value };
         }
-        let byte = text[at];
-        if tables::role(form, byte) != 9 {
+        let plain = tables::plain(form, text[at]);
+        if tables::role(form, plain) != 9 {
             return Tail { count, value };
         }
-        value = value * radix + wide(tables::plain(form, byte) - low);
+        value = value * radix + wide(plain - low);
         count += 1;
         at += 1;
     }
@@ -51,8 +51,8 @@ pub fn item_at(form: ByteForm, text: &[u8], at: usize) -> Item
     requires { ⌜ at < length (now text) ⌝ }
     ensures { λ r. ⌜ r ≡ itemAt (byteForm form) (now (text .entry)) at ⌝ }
 {
-    let byte = text[at];
-    let role = tables::role(form, byte);
+    let plain = tables::plain(form, text[at]);
+    let role = tables::role(form, plain);
     if role == 9 {
         return Item::Mark(
             Fault::StrayTrailing,
@@ -72,7 +72,7 @@ pub fn item_at(form: ByteForm, text: &[u8], at: usize) -> Item
         );
     }
     let asked = (role - 1) as usize;
-    let lead = wide(tables::plain(form, byte) - tables::lead_base(form, asked));
+    let lead = wide(plain - tables::lead_base(form, asked));
     let tail = tail_at(form, text, at + 1, asked, lead);
     let count = tail.count;
     let value = tail.value;

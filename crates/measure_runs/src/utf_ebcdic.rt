@@ -2,7 +2,7 @@
 use encoder::Target;
 use types::Run;
 ghost use mathlib.Core.List.{map};
-ghost use Prim.Native.Nat.{_+_, _≤_};
+ghost use Prim.Native.Nat.{_+_, _<_, _≤_};
 ghost use lib.ListN.{length};
 ghost use Rattle.forms.specs.Exchange.{i8Of};
 ghost use Rattle.forms.specs.Forms.{utfEbcdic};
@@ -76,16 +76,15 @@ fn few(table: &[u8; 256], target: Target, src: &[u8], at: usize) -> Run
 }
 
 pub fn count(target: Target, src: &[u8], at: usize) -> Run
-    requires { ⌜ (at ≤ length (now src)) × (length (now src) ≤ 65536) ⌝ }
+    requires { ⌜ (at < length (now src)) × (length (now src) ≤ 65536) ⌝ }
     ensures { λ r. ⌜ Counted utfEbcdic (targetForm target) (now (src .entry)) at (r .length) (r .units) ⌝ }
 {
-    let table = tables::exchange::exchange_table();
+    let mut table: [u8; 256] = [0; 256];
+    tables::exchange::exchange_table(&mut table, src[at]);
     let ascii = ascii_length(&table, src, at);
-    if ascii != 0 {
-        return Run {
-            length: ascii,
-            units: ascii,
-        };
+    let rest = few(&table, target, src, at + ascii);
+    Run {
+        length: ascii + rest.length,
+        units: ascii + rest.units,
     }
-    few(&table, target, src, at)
 }

@@ -1,7 +1,7 @@
 // To UTF-EBCDIC. A run copies the inverse table once and looks up in the copy.
 use types::Run;
 ghost use mathlib.Core.Path.{_≡_};
-ghost use Prim.Native.Nat.{_≤_};
+ghost use Prim.Native.Nat.{_<_};
 ghost use lib.ListN.{length};
 ghost use Rattle.forms.specs.Forms.{fssUtf, utfEbcdic};
 ghost use Rattle.laws.proofs.Runs.{Convertible, Wrote};
@@ -14,10 +14,11 @@ fn wide(byte: u8) -> u32
 
 // Up to a character of more than four bytes. ASCII is looked for first.
 pub fn write(src: &[u8], at: usize, dst: &mut [u8], written: usize) -> Run
-    requires { ⌜ (at ≤ length (now src)) × Convertible fssUtf utfEbcdic (now src) at written (length (now dst)) ⌝ }
+    requires { ⌜ (at < length (now src)) × Convertible fssUtf utfEbcdic (now src) at written (length (now dst)) ⌝ }
     ensures { λ r. ⌜ Wrote fssUtf utfEbcdic (now (src .entry)) at (r .length) (r .units) (now (dst .entry)) written (now (dst .exit)) ⌝ }
 {
-    let table = tables::exchange::inverse_table();
+    let mut table: [u8; 256] = [0; 256];
+    tables::exchange::inverse_table(&mut table, src[at]);
     let room = src.len() - at;
     let mut length: usize = 0;
     let mut units: usize = 0;

@@ -1,14 +1,14 @@
 // To FSS-UTF or UTF-EBCDIC.
 use tables::ByteForm;
 use types::Run;
-ghost use Prim.Native.Nat.{_≤_};
+ghost use Prim.Native.Nat.{_<_};
 ghost use lib.ListN.{length};
 ghost use Rattle.forms.specs.Forms.{ucs4};
 ghost use Rattle.laws.proofs.Runs.{Convertible, Wrote};
 ghost use Rattle.tables.specs.ByteForms.{byteForm};
 
 pub fn write(to: ByteForm, src: &[u32], at: usize, dst: &mut [u8], written: usize) -> Run
-    requires { ⌜ (at ≤ length (now src)) × (Convertible ucs4 (byteForm to) (now src) at written (length (now dst))) ⌝ }
+    requires { ⌜ (at < length (now src)) × (Convertible ucs4 (byteForm to) (now src) at written (length (now dst))) ⌝ }
     ensures { λ r. ⌜ Wrote ucs4 (byteForm to) (now (src .entry)) at (r .length) (r .units) (now (dst .entry)) written (now (dst .exit)) ⌝ }
 {
     match to {

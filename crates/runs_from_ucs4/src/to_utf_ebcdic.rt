@@ -1,15 +1,16 @@
 // To UTF-EBCDIC. A run copies the inverse table once and looks up in the copy.
 use types::Run;
-ghost use Prim.Native.Nat.{_≤_};
+ghost use Prim.Native.Nat.{_<_};
 ghost use lib.ListN.{length};
 ghost use Rattle.forms.specs.Forms.{utfEbcdic, ucs4};
 ghost use Rattle.laws.proofs.Runs.{Convertible, Wrote};
 
 pub fn write(src: &[u32], at: usize, dst: &mut [u8], written: usize) -> Run
-    requires { ⌜ (at ≤ length (now src)) × Convertible ucs4 utfEbcdic (now src) at written (length (now dst)) ⌝ }
+    requires { ⌜ (at < length (now src)) × Convertible ucs4 utfEbcdic (now src) at written (length (now dst)) ⌝ }
     ensures { λ r. ⌜ Wrote ucs4 utfEbcdic (now (src .entry)) at (r .length) (r .units) (now (dst .entry)) written (now (dst .exit)) ⌝ }
 {
-    let table = tables::exchange::inverse_table();
+    let mut table: [u8; 256] = [0; 256];
+    tables::exchange::inverse_table(&mut table, (src[at] % 256) as u8);
     let room = src.len() - at;
     let mut length: usize = 0;
     let mut units: usize = 0;

@@ -1,7 +1,7 @@
 // To UCS-4.
 use types::Run;
 ghost use mathlib.Core.Path.{_≡_};
-ghost use Prim.Native.Nat.{_+_, _≤_};
+ghost use Prim.Native.Nat.{_+_, _<_, _≤_};
 ghost use lib.ListN.{length};
 ghost use Rattle.forms.specs.Exchange.{i8Of};
 ghost use Rattle.forms.specs.Forms.{utfEbcdic, ucs4};
@@ -87,16 +87,15 @@ fn few(table: &[u8; 256], src: &[u8], at: usize, dst: &mut [u32], written: usize
 }
 
 pub fn write(src: &[u8], at: usize, dst: &mut [u32], written: usize) -> Run
-    requires { ⌜ (at ≤ length (now src)) × Convertible utfEbcdic ucs4 (now src) at written (length (now dst)) ⌝ }
+    requires { ⌜ (at < length (now src)) × Convertible utfEbcdic ucs4 (now src) at written (length (now dst)) ⌝ }
     ensures { λ r. ⌜ Wrote utfEbcdic ucs4 (now (src .entry)) at (r .length) (r .units) (now (dst .entry)) written (now (dst .exit)) ⌝ }
 {
-    let table = tables::exchange::exchange_table();
+    let mut table: [u8; 256] = [0; 256];
+    tables::exchange::exchange_table(&mut table, src[at]);
     let copied = ascii(&table, src, at, dst, written);
-    if copied != 0 {
-        return Run {
-            length: copied,
-            units: copied,
-        };
+    let rest = few(&table, src, at + copied, dst, written + copied);
+    Run {
+        length: copied + rest.length,
+        units: copied + rest.units,
     }
-    few(&table, src, at, dst, written)
 }

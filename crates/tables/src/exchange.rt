@@ -1,9 +1,8 @@
-// The exchange between UTF-EBCDIC and I8 bytes, its inverse, and the shadow flags. Each function's contract says by the rules what its
-// table holds; `specs/Tables` says it of a table that is lent.
+// The exchange between UTF-EBCDIC and I8 bytes and its inverse, as constant tables, and the shadow flags. Each function's contract says by the
+// rules what it gives; `specs/Tables` says what a lent table holds.
 ghost use mathlib.Core.Path.{_≡_};
 ghost use Rattle.forms.specs.Exchange.{i8Of, ebcdicOf};
-ghost use Rattle.forms.specs.Flags.{flagOf};
-ghost use Rattle.tables.specs.Tables.{Tabulates};
+ghost use Rattle.tables.specs.Tables.{Tabulates, Flagged};
 
 // The I8 byte of each UTF-EBCDIC byte, rows by high nibble.
 const EXCHANGE: [u8; 256] = [
@@ -525,301 +524,37 @@ const INVERSE: [u8; 256] = [
     0xE1,
 ];
 
-// The shadow flag of each UTF-EBCDIC byte.
-const FLAGS: [u8; 256] = [
-    0,
-    0,
-    0,
-    0,
-    0,
-    0,
-    0,
-    0,
-    0,
-    0,
-    0,
-    0,
-    0,
-    0,
-    0,
-    0,
-    0,
-    0,
-    0,
-    0,
-    0,
-    0,
-    0,
-    0,
-    0,
-    0,
-    0,
-    0,
-    0,
-    0,
-    0,
-    0,
-    0,
-    0,
-    0,
-    0,
-    0,
-    0,
-    0,
-    0,
-    0,
-    0,
-    0,
-    0,
-    0,
-    0,
-    0,
-    0,
-    0,
-    0,
-    0,
-    0,
-    0,
-    0,
-    0,
-    0,
-    0,
-    0,
-    0,
-    0,
-    0,
-    0,
-    0,
-    0,
-    1,
-    6,
-    2,
-    2,
-    2,
-    2,
-    2,
-    2,
-    2,
-    2,
-    7,
-    1,
-    1,
-    1,
-    1,
-    1,
-    1,
-    6,
-    2,
-    2,
-    2,
-    2,
-    2,
-    2,
-    2,
-    2,
-    1,
-    1,
-    1,
-    1,
-    1,
-    1,
-    1,
-    1,
-    2,
-    2,
-    2,
-    2,
-    2,
-    2,
-    2,
-    2,
-    5,
-    1,
-    1,
-    1,
-    1,
-    1,
-    5,
-    2,
-    2,
-    2,
-    2,
-    2,
-    2,
-    2,
-    2,
-    1,
-    1,
-    1,
-    1,
-    1,
-    1,
-    1,
-    9,
-    1,
-    1,
-    1,
-    1,
-    1,
-    1,
-    1,
-    1,
-    1,
-    3,
-    3,
-    9,
-    9,
-    9,
-    9,
-    9,
-    1,
-    1,
-    1,
-    1,
-    1,
-    1,
-    1,
-    1,
-    1,
-    3,
-    3,
-    9,
-    9,
-    9,
-    9,
-    9,
-    1,
-    1,
-    1,
-    1,
-    1,
-    1,
-    1,
-    1,
-    1,
-    3,
-    3,
-    9,
-    1,
-    9,
-    9,
-    5,
-    5,
-    4,
-    4,
-    4,
-    4,
-    4,
-    4,
-    4,
-    4,
-    3,
-    3,
-    9,
-    1,
-    9,
-    9,
-    1,
-    1,
-    1,
-    1,
-    1,
-    1,
-    1,
-    1,
-    1,
-    1,
-    3,
-    3,
-    9,
-    9,
-    9,
-    9,
-    1,
-    1,
-    1,
-    1,
-    1,
-    1,
-    1,
-    1,
-    1,
-    1,
-    3,
-    3,
-    9,
-    9,
-    9,
-    9,
-    1,
-    7,
-    1,
-    1,
-    1,
-    1,
-    1,
-    1,
-    1,
-    1,
-    3,
-    3,
-    9,
-    9,
-    9,
-    9,
-    1,
-    1,
-    1,
-    1,
-    1,
-    1,
-    1,
-    1,
-    1,
-    1,
-    3,
-    3,
-    9,
-    9,
-    9,
-    0,
-];
+// The exchange whole, put into a lent table for a loop to look up in, and the I8 byte of one UTF-EBCDIC byte. That byte is looked up here, so
+// that the compiler keeps the 256 constants in this function and does not repeat them in each caller.
+pub fn exchange_table(table: &mut [u8; 256], byte: u8) -> u8
+    ensures { λ r. ⌜ (r ≡ i8Of byte) × Tabulates i8Of (now (table .exit)) ⌝ }
+{
+    *table = EXCHANGE;
+    table[byte as usize]
+}
+
+// The same for the inverse: the UTF-EBCDIC byte of one I8 byte.
+pub fn inverse_table(table: &mut [u8; 256], byte: u8) -> u8
+    ensures { λ r. ⌜ (r ≡ ebcdicOf byte) × Tabulates ebcdicOf (now (table .exit)) ⌝ }
+{
+    *table = INVERSE;
+    table[byte as usize]
+}
 
 // The I8 byte of a UTF-EBCDIC byte.
 pub fn exchange(byte: u8) -> u8
     ensures { λ r. ⌜ r ≡ i8Of byte ⌝ }
 {
-    let i = byte as usize;
-    EXCHANGE[i]
+    let mut table: [u8; 256] = [0; 256];
+    exchange_table(&mut table, byte)
 }
 
 // The UTF-EBCDIC byte of an I8 byte.
 pub fn inverse(byte: u8) -> u8
     ensures { λ r. ⌜ r ≡ ebcdicOf byte ⌝ }
 {
-    let i = byte as usize;
-    INVERSE[i]
-}
-
-// The shadow flag of a UTF-EBCDIC byte.
-pub fn flag(byte: u8) -> u8
-    ensures { λ r. ⌜ r ≡ flagOf byte ⌝ }
-{
-    let i = byte as usize;
-    FLAGS[i]
-}
-
-// The exchange and its inverse whole: a loop takes one before it starts, and looks up in that copy.
-pub fn exchange_table() -> [u8; 256]
-    ensures { λ r. ⌜ Tabulates i8Of r ⌝ }
-{
-    EXCHANGE
-}
-
-pub fn inverse_table() -> [u8; 256]
-    ensures { λ r. ⌜ Tabulates ebcdicOf r ⌝ }
-{
-    INVERSE
+    let mut table: [u8; 256] = [0; 256];
+    inverse_table(&mut table, byte)
 }
 
 // What a table has for a byte.
@@ -835,4 +570,22 @@ pub fn restored(table: &[u8; 256], byte: u8) -> u8
     ensures { λ r. ⌜ r ≡ ebcdicOf byte ⌝ }
 {
     table[byte as usize]
+}
+
+// The shadow flag of a UTF-EBCDIC byte, worked out from its I8 byte.
+pub fn flag(plain: u8) -> u8
+    ensures { λ r. ⌜ Flagged plain r ⌝ }
+{
+    match plain {
+        0x00..=0x1F => 0,
+        0x20..=0x7E => 1,
+        0x7F..=0x9F => 0,
+        0xA0..=0xBF => 9,
+        0xC0..=0xDF => 2,
+        0xE0..=0xEF => 3,
+        0xF0..=0xF7 => 4,
+        0xF8..=0xFB => 5,
+        0xFC..=0xFD => 6,
+        0xFE..=0xFF => 7,
+    }
 }

@@ -1,12 +1,12 @@
-// The constant tables of the byte forms: roles, lead bases and lowest values for both layouts; `exchange` has the exchange, its inverse and
-// the shadow flags. Each function's contract says by the rules what its table holds; `specs/ByteForms` has the two forms by one parameter.
+// Roles, lead bases and lowest values for both byte layouts; `exchange` has the tables of the exchange and its inverse, and the shadow flags.
+// Each function's contract says by the rules what it gives; `specs/ByteForms` has the two forms by one parameter.
 pub mod exchange;
 
 ghost use mathlib.Core.Path.{_≡_};
 ghost use Prim.Native.Nat.{_<_, _≤_};
 ghost use lib.ListN.{length};
-ghost use Rattle.forms.specs.Layout.{rowAt, lowestOf};
-ghost use Rattle.tables.specs.ByteForms.{layoutOf, byteForm, plainOf, unitOf, roleNumber};
+ghost use Rattle.forms.specs.Layout.{roleOf, rowAt, lowestOf};
+ghost use Rattle.tables.specs.ByteForms.{layoutOf, plainOf, unitOf, roleNumber};
 
 // The two forms whose code units are bytes.
 pub enum ByteForm {
@@ -51,20 +51,20 @@ pub fn unit(form: ByteForm, plain: u8) -> u8
     }
 }
 
-// The role of a form's byte: n for the lead of n bytes, 9 for trailing, 0 for neither.
-pub fn role(form: ByteForm, byte: u8) -> u8
-    ensures { λ r. ⌜ r ≡ roleNumber (byteForm form .role byte) ⌝ }
+// The role of a byte of the layout: n for the lead of n bytes, 9 for trailing, 0 for neither.
+pub fn role(form: ByteForm, plain: u8) -> u8
+    ensures { λ r. ⌜ r ≡ roleNumber (roleOf (layoutOf form) plain) ⌝ }
 {
     match form {
-        ByteForm::FssUtf => role_fss_utf(byte),
-        ByteForm::UtfEbcdic => role_utf_ebcdic(byte),
+        ByteForm::FssUtf => role_fss_utf(plain),
+        ByteForm::UtfEbcdic => role_i8(plain),
     }
 }
 
-fn role_fss_utf(byte: u8) -> u8
-    ensures { λ r. ⌜ r ≡ roleNumber (byteForm ByteForm.FssUtf .role byte) ⌝ }
+fn role_fss_utf(plain: u8) -> u8
+    ensures { λ r. ⌜ r ≡ roleNumber (roleOf (layoutOf ByteForm.FssUtf) plain) ⌝ }
 {
-    match byte {
+    match plain {
         0x00..=0x7F => 1,
         0x80..=0xBF => 9,
         0xC0..=0xDF => 2,
@@ -76,10 +76,10 @@ fn role_fss_utf(byte: u8) -> u8
     }
 }
 
-fn role_utf_ebcdic(byte: u8) -> u8
-    ensures { λ r. ⌜ r ≡ roleNumber (byteForm ByteForm.UtfEbcdic .role byte) ⌝ }
+fn role_i8(plain: u8) -> u8
+    ensures { λ r. ⌜ r ≡ roleNumber (roleOf (layoutOf ByteForm.UtfEbcdic) plain) ⌝ }
 {
-    let f = crate::exchange::flag(byte);
+    let f = crate::exchange::flag(plain);
     if f == 0 {
         return 1;
     }

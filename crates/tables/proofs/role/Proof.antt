@@ -11,14 +11,14 @@ role-fss-utf-requires c κs = search needs
 enum-told-2 : tie.Need-enum-told-2
 enum-told-2 c = search needs
 
-role-utf-ebcdic-requires : tie.Need-role-utf-ebcdic-requires
-role-utf-ebcdic-requires c κs = search needs
+role-i8-requires : tie.Need-role-i8-requires
+role-i8-requires c κs = search needs
 
 returns : tie.Need-returns
 returns c = rw (c .before .enum-told .given .1) (c .role-fss-utf .ensures)
 
 returns-2 : tie.Need-returns-2
-returns-2 c = rw (c .before .enum-told2 .given .1) (c .role-utf-ebcdic .ensures)
+returns-2 c = rw (c .before .enum-told2 .given .1) (c .role-i8 .ensures)
 
 pub role-spec : {M : Type 1} → statement M
 role-spec =
@@ -27,6 +27,6 @@ role-spec =
     enum-told
     role-fss-utf-requires
     enum-told-2
-    role-utf-ebcdic-requires
+    role-i8-requires
     returns
     returns-2)

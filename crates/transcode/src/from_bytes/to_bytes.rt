@@ -3,7 +3,7 @@ use tables::ByteForm;
 use types::Conversion;
 use types::Item;
 use types::Run;
-ghost use Prim.Native.Nat.{_≤_};
+ghost use Prim.Native.Nat.{_<_};
 ghost use lib.ListN.{length};
 ghost use Rattle.laws.proofs.Runs.{Convertible, Wrote};
 ghost use Rattle.forms.specs.Forms.{fssUtf, utfEbcdic};
@@ -12,7 +12,7 @@ ghost use Rattle.tables.specs.ByteForms.{byteForm};
 
 // The characters from an offset on that are written at once.
 fn write_fss_utf_run(to: ByteForm, src: &[u8], at: usize, dst: &mut [u8], written: usize) -> Run
-    requires { ⌜ (at ≤ length (now src)) × Convertible fssUtf (byteForm to) (now src) at written (length (now dst)) ⌝ }
+    requires { ⌜ (at < length (now src)) × Convertible fssUtf (byteForm to) (now src) at written (length (now dst)) ⌝ }
     ensures { λ r. ⌜ Wrote fssUtf (byteForm to) (now (src .entry)) at (r .length) (r .units) (now (dst .entry)) written (now (dst .exit)) ⌝ }
 {
     match to {
@@ -25,7 +25,7 @@ fn write_fss_utf_run(to: ByteForm, src: &[u8], at: usize, dst: &mut [u8], writte
 }
 
 fn write_utf_ebcdic_run(to: ByteForm, src: &[u8], at: usize, dst: &mut [u8], written: usize) -> Run
-    requires { ⌜ (at ≤ length (now src)) × Convertible utfEbcdic (byteForm to) (now src) at written (length (now dst)) ⌝ }
+    requires { ⌜ (at < length (now src)) × Convertible utfEbcdic (byteForm to) (now src) at written (length (now dst)) ⌝ }
     ensures { λ r. ⌜ Wrote utfEbcdic (byteForm to) (now (src .entry)) at (r .length) (r .units) (now (dst .entry)) written (now (dst .exit)) ⌝ }
 {
     match to {
@@ -45,7 +45,7 @@ fn write_run(
     dst: &mut [u8],
     written: usize,
 ) -> Run
-    requires { ⌜ (at ≤ length (now src)) × Convertible (byteForm from) (byteForm to) (now src) at written (length (now dst)) ⌝ }
+    requires { ⌜ (at < length (now src)) × Convertible (byteForm from) (byteForm to) (now src) at written (length (now dst)) ⌝ }
     ensures { λ r. ⌜ Wrote (byteForm from) (byteForm to) (now (src .entry)) at (r .length) (r .units) (now (dst .entry)) written (now (dst .exit)) ⌝ }
 {
     match from {

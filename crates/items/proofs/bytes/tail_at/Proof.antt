@@ -6,6 +6,7 @@ use lib.ListN.{getD, length}
 use denote.Ref.{now}
 use Rattle.laws.proofs.Digits.{IsDigit}
 use Rattle.tables.specs.ByteForms.{byteForm, layoutOf, plainOf, roleNumber}
+use Rattle.tables.proofs.Agreement.{byte-role}
 use Rattle.items.proofs.Tails.{JoiningBytes, bytes-begin, bytes-inside, bytes-fit, bytes-end, bytes-asked, bytes-other, bytes-digit, bytes-more}
 use Rattle.items.proofs.bytes.tail_at.Statement.{statement}
 use Rattle.items.proofs.bytes.tail_at.Tie as tie
@@ -24,30 +25,39 @@ abbrev Trailing : Type 0
 Trailing = tie.Else2 Inv-loop μ-loop
 
 abbrev loop : Trailing → tie.At-loop Inv-loop μ-loop
-loop c = c .before .before .before .before .before
+loop c = c .before .before .before .before .before .before
 
 abbrev start : Trailing → Start
 start c = loop c .before .before .before .before
+
+told : (c : tie.After-role Inv-loop μ-loop) →
+    let l = c .before .before .before .before .before in
+    let a = l .before .before .before .before .args in
+    c .role .result ≡ roleNumber (byteForm (a .form) .role (getD (now (a .text)) (l .loop .at) 0))
+told c =
+    let l = c .before .before .before .before .before in
+    let a = l .before .before .before .before .args in
+    byte-role (a .form) (getD (now (a .text)) (l .loop .at) 0) (c .before .plain .result) (c .role .result) (c .before .plain .ensures) (c .role .ensures)
 
 digit : (c : Trailing) → IsDigit (layoutOf (start c .args .form) .low) (layoutOf (start c .args .form) .radix) (plainOf (start c .args .form) (getD (now (start c .args .text)) (loop c .loop .at) 0))
 digit c =
     let a = start c .args in
     let l = loop c .loop in
-    bytes-digit (a .form) (now (a .text)) (a .from) (a .asked) (a .lead) (l .count) (l .at) (l .value) (l .inv) (c .before .before .before .if1 .left)
-    (c .before .role .result) (c .before .role .ensures) (c .if2 .left)
+    bytes-digit (a .form) (now (a .text)) (a .from) (a .asked) (a .lead) (l .count) (l .at) (l .value) (l .inv) (c .before .before .before .before .if1 .left)
+    (c .before .role .result) (told (c .before)) (c .if2 .left)
 
 room : (c : Trailing) → loop c .loop .value * loop c .before .before .radix .result + loop c .before .before .radix .result ≤ 2 ^ 31
 room c =
     let a = start c .args in
     let l = loop c .loop in
     bytes-fit (a .form) (now (a .text)) (a .from) (a .asked) (a .lead) (l .count) (l .at) (l .value) (l .inv)
-    (loop c .before .before .radix .result) (loop c .before .before .radix .ensures) (c .before .before .before .before .loop-test .taken)
+    (loop c .before .before .radix .result) (loop c .before .before .radix .ensures) (c .before .before .before .before .before .loop-test .taken)
 
 -- the free bits of the trailing byte
 bits : (c : tie.After-wide Inv-loop μ-loop) → c .wide .result
-    ≡ plainOf (start (c .before .before) .args .form) (getD (now (start (c .before .before) .args .text)) (loop (c .before .before) .loop .at) 0)
-    - layoutOf (start (c .before .before) .args .form) .low
-bits c = omega (arith, c .wide .ensures, c .before .plain .ensures, loop (c .before .before) .before .first-trailing .ensures)
+    ≡ plainOf (start (c .before) .args .form) (getD (now (start (c .before) .args .text)) (loop (c .before) .loop .at) 0)
+    - layoutOf (start (c .before) .args .form) .low
+bits c = omega (arith, c .wide .ensures, c .before .before .before .plain .ensures, loop (c .before) .before .first-trailing .ensures)
 
 radix-requires : tie.Need-radix-requires Inv-loop μ-loop
 radix-requires c κs = search needs
@@ -66,34 +76,34 @@ returns c =
     let a = c .before .before .before .before .before .before .args in
     bytes-end (a .form) (now (a .text)) (a .from) (a .asked) (a .lead) (l .count) (l .at) (l .value) (l .inv) (c .if1 .taken)
 
-shared-slice-read-byte : tie.Need-shared-slice-read-byte Inv-loop μ-loop
-shared-slice-read-byte c = omega arith
+shared-slice-read-plain : tie.Need-shared-slice-read-plain Inv-loop μ-loop
+shared-slice-read-plain c = omega arith
+
+plain-requires : tie.Need-plain-requires Inv-loop μ-loop
+plain-requires c κs = search needs
 
 role-requires : tie.Need-role-requires Inv-loop μ-loop
 role-requires c κs = search needs
 
 returns-2 : tie.Need-returns-2 Inv-loop μ-loop
 returns-2 c =
-    let l = c .before .before .before .before .before .loop in
-    let a = c .before .before .before .before .before .before .before .before .before .args in
-    bytes-other (a .form) (now (a .text)) (a .from) (a .asked) (a .lead) (l .count) (l .at) (l .value) (l .inv) (c .before .before .before .if1 .left)
-    (c .before .role .result) (c .before .role .ensures) (c .if2 .taken)
+    let l = c .before .before .before .before .before .before .loop in
+    let a = c .before .before .before .before .before .before .before .before .before .before .args in
+    bytes-other (a .form) (now (a .text)) (a .from) (a .asked) (a .lead) (l .count) (l .at) (l .value) (l .inv) (c .before .before .before .before .if1 .left)
+    (c .before .role .result) (told (c .before)) (c .if2 .taken)
 
 mul-value : tie.Need-mul-value Inv-loop μ-loop
 mul-value c = omega (arith, room c)
 
-plain-requires : tie.Need-plain-requires Inv-loop μ-loop
-plain-requires c κs = search needs
-
 sub-wide : tie.Need-sub-wide Inv-loop μ-loop
-sub-wide c = omega (arith, digit (c .before), c .plain .ensures, loop (c .before) .before .first-trailing .ensures)
+sub-wide c = omega (arith, digit c, c .before .before .plain .ensures, loop c .before .first-trailing .ensures)
 
 wide-requires : tie.Need-wide-requires Inv-loop μ-loop
 wide-requires c κs = search needs
 
 add-value : tie.Need-add-value Inv-loop μ-loop
 add-value c =
-    omega (arith, room (c .before .before), digit (c .before .before), bits c, loop (c .before .before) .before .before .radix .ensures)
+    omega (arith, room (c .before), digit (c .before), bits c, loop (c .before) .before .before .radix .ensures)
 
 add-count : tie.Need-add-count Inv-loop μ-loop
 add-count c = omega arith
@@ -106,11 +116,11 @@ loop-less c = omega arith
 
 loop-again : tie.Need-loop-again Inv-loop μ-loop
 loop-again c =
-    let t = c .before .before in
+    let t = c .before in
     let a = start t .args in
     let l = loop t .loop in
-    bytes-more (a .form) (now (a .text)) (a .from) (a .asked) (a .lead) (l .count) (l .at) (l .value) (l .inv) (t .before .before .before .if1 .left)
-    (t .before .role .result) (t .before .role .ensures) (t .if2 .left) (t .before .before .before .before .loop-test .taken)
+    bytes-more (a .form) (now (a .text)) (a .from) (a .asked) (a .lead) (l .count) (l .at) (l .value) (l .inv) (t .before .before .before .before .if1 .left)
+    (t .before .role .result) (told (t .before)) (t .if2 .left) (t .before .before .before .before .before .loop-test .taken)
     (loop t .before .before .radix .result) (c .wide .result) (loop t .before .before .radix .ensures) (bits c)
 
 returns-3 : tie.Need-returns-3 Inv-loop μ-loop
@@ -129,11 +139,11 @@ tail-at-spec =
     first-trailing-requires
     loop-holds
     returns
-    shared-slice-read-byte
+    shared-slice-read-plain
+    plain-requires
     role-requires
     returns-2
     mul-value
-    plain-requires
     sub-wide
     wide-requires
     add-value

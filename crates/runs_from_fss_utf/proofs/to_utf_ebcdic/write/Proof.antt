@@ -19,18 +19,21 @@ abbrev μ-loop : tie.MeasureT-loop
 μ-loop src at dst₀ written table room length₀ units₀ dst length units = room - length
 
 -- an ASCII character
-alone : (c : tie.After-wide Inv-loop μ-loop) → let z = c .before .before .before .before .before .before .before .before .before .args in
+alone : (c : tie.After-wide Inv-loop μ-loop) → let z = c .before .before .before .before .before .before .before .before .before .before .before .args in
     let p = z .at + c .before .before .before .before .before .loop .length in
     CharacterAt fssUtf (now (z .src)) p (c .wide .result) (span p 1)
 alone c =
-    let z = c .before .before .before .before .before .before .before .before .before in
+    let z = c .before .before .before .before .before .before .before .before .before .before .before in
     rw (c .wide .ensures) (ascii-at (now (z .args .src)) (z .args .at + c .before .before .before .before .before .loop .length) (omega (arith, c .before .before .before .before .loop-test .taken, z .pre .0)) (c .before .before .if1 .taken))
 
 -- another character
-read : (c : tie.Else2 Inv-loop μ-loop) → let z = c .before .before .before .before .before .before .before .before .before .args in
+read : (c : tie.Else2 Inv-loop μ-loop) → let z = c .before .before .before .before .before .before .before .before .before .before .before .args in
     let p = z .at + c .before .before .before .before .before .loop .length in
     CharacterAt fssUtf (now (z .src)) p (c .before .known-at .result .value) (span p (c .before .known-at .result .length))
 read c = c .before .known-at .ensures .character (c .if2 .left)
+
+shared-slice-read-inverse-table : tie.Need-shared-slice-read-inverse-table Inv-loop μ-loop
+shared-slice-read-inverse-table c = search needs
 
 inverse-table-requires : tie.Need-inverse-table-requires Inv-loop μ-loop
 inverse-table-requires c κs = search needs
@@ -39,25 +42,25 @@ sub-room : tie.Need-sub-room Inv-loop μ-loop
 sub-room c = search needs
 
 loop-holds : tie.Need-loop-holds Inv-loop μ-loop
-loop-holds c = writing-run-begin (c .before .before .before .pre .0) (c .before .before .before .pre .1)
+loop-holds c = writing-run-begin (omega (arith, c .before .before .before .before .before .pre .0)) (c .before .before .before .before .before .pre .1)
 
 add-lead : tie.Need-add-lead Inv-loop μ-loop
-add-lead c = omega (arith, c .before .loop .inv .wrote .run .inside, c .before .before .before .before .before .good)
+add-lead c = omega (arith, c .before .loop .inv .wrote .run .inside, c .before .before .before .before .before .before .before .good)
 
 shared-slice-read-lead : tie.Need-shared-slice-read-lead Inv-loop μ-loop
-shared-slice-read-lead c = omega (arith, c .before .loop-test .taken, c .before .before .before .before .before .before .pre .0)
+shared-slice-read-lead c = omega (arith, c .before .loop-test .taken, c .before .before .before .before .before .before .before .before .pre .0)
 
 wide-requires : tie.Need-wide-requires Inv-loop μ-loop
 wide-requires c κs = search needs
 
 add-write : tie.Need-add-write Inv-loop μ-loop
-add-write c = omega (arith, c .before .before .before .before .before .before .loop .inv .room, c .before .before .before .before .before .before .before .before .before .before .good)
+add-write c = omega (arith, c .before .before .before .before .before .before .loop .inv .room, c .before .before .before .before .before .before .before .before .before .before .before .before .good)
 
 write-requires : tie.Need-write-requires Inv-loop μ-loop
-write-requires c κs = (c .before .before .before .before .before .before .before .inverse-table .ensures, character-small fssUtf-laws (alone (c .before)), writing-run-held (c .before .before .before .before .before .before .loop .inv) (alone (c .before)) .1)
+write-requires c κs = (c .before .before .before .before .before .before .before .inverse-table .ensures .1, character-small fssUtf-laws (alone (c .before)), writing-run-held (c .before .before .before .before .before .before .loop .inv) (alone (c .before)) .1)
 
 add-length : tie.Need-add-length Inv-loop μ-loop
-add-length c = omega (arith, character-onward (alone (c .before .before .before .before)) .1, c .before .before .before .before .before .before .before .before .before .before .before .before .before .good)
+add-length c = omega (arith, character-onward (alone (c .before .before .before .before)) .1, c .before .before .before .before .before .before .before .before .before .before .before .before .before .before .before .good)
 
 sub-units : tie.Need-sub-units Inv-loop μ-loop
 sub-units c = omega (arith, c .before .before .write .ensures .0)
@@ -69,10 +72,10 @@ loop-again : tie.Need-loop-again Inv-loop μ-loop
 loop-again c = writing-run-more (c .before .before .before .before .before .before .before .before .before .loop .inv) (alone (c .before .before .before .before)) (c .before .before .write .ensures .0) (c .before .before .write .ensures .1)
 
 add-known-at : tie.Need-add-known-at Inv-loop μ-loop
-add-known-at c = omega (arith, c .before .before .before .loop .inv .wrote .run .inside, c .before .before .before .before .before .before .before .good)
+add-known-at c = omega (arith, c .before .before .before .loop .inv .wrote .run .inside, c .before .before .before .before .before .before .before .before .before .good)
 
 known-at-requires : tie.Need-known-at-requires Inv-loop μ-loop
-known-at-requires c κs = writing-run-stands (c .before .before .before .loop .inv) (omega (arith, c .before .before .loop-test .taken, c .before .before .before .before .before .before .before .pre .0))
+known-at-requires c κs = writing-run-stands (c .before .before .before .loop .inv) (omega (arith, c .before .before .loop-test .taken, c .before .before .before .before .before .before .before .before .before .pre .0))
 
 same-length : tie.Need-same-length Inv-loop μ-loop
 same-length c = c .before .before .before .before .before .loop .inv .same
@@ -81,13 +84,13 @@ returns : tie.Need-returns Inv-loop μ-loop
 returns c = c .before .before .before .before .before .loop .inv .wrote
 
 add-write-2 : tie.Need-add-write-2 Inv-loop μ-loop
-add-write-2 c = omega (arith, c .before .before .before .before .before .before .before .loop .inv .room, c .before .before .before .before .before .before .before .before .before .before .before .good)
+add-write-2 c = omega (arith, c .before .before .before .before .before .before .before .loop .inv .room, c .before .before .before .before .before .before .before .before .before .before .before .before .before .good)
 
 write-requires-2 : tie.Need-write-requires-2 Inv-loop μ-loop
-write-requires-2 c κs = (c .before .before .before .before .before .before .before .before .inverse-table .ensures, character-small fssUtf-laws (read (c .before .before)), writing-run-held (c .before .before .before .before .before .before .before .loop .inv) (read (c .before .before)) .1)
+write-requires-2 c κs = (c .before .before .before .before .before .before .before .before .inverse-table .ensures .1, character-small fssUtf-laws (read (c .before .before)), writing-run-held (c .before .before .before .before .before .before .before .loop .inv) (read (c .before .before)) .1)
 
 add-length-2 : tie.Need-add-length-2 Inv-loop μ-loop
-add-length-2 c = omega (arith, character-onward (read (c .before .before .before .before .before)) .1, c .before .before .before .before .before .before .before .before .before .before .before .before .before .before .good)
+add-length-2 c = omega (arith, character-onward (read (c .before .before .before .before .before)) .1, c .before .before .before .before .before .before .before .before .before .before .before .before .before .before .before .before .good)
 
 sub-units-2 : tie.Need-sub-units-2 Inv-loop μ-loop
 sub-units-2 c = omega (arith, c .before .before .write2 .ensures .0)
@@ -110,6 +113,7 @@ write-spec =
     (tie.spec
     Inv-loop
     μ-loop
+    shared-slice-read-inverse-table
     inverse-table-requires
     sub-room
     loop-holds

@@ -19,10 +19,19 @@ Inv-loop src at dst₀ written table room length₀ units₀ dst length units = 
 abbrev μ-loop : tie.MeasureT-loop
 μ-loop src at dst₀ written table room length₀ units₀ dst length units = room - length
 
-read : (c : tie.In-loop Inv-loop μ-loop) → let z = c .before .before .before .before .before .args in
+read : (c : tie.In-loop Inv-loop μ-loop) → let z = c .before .before .before .before .before .before .before .args in
     let p = z .at + c .before .loop .length in
     CharacterAt ucs4 (now (z .src)) p (getD (now (z .src)) p 0) (span p 1)
-read c = unit-stands (writing-run-stands (c .before .loop .inv) (omega (arith, c .loop-test .taken, c .before .before .before .before .before .pre .0)))
+read c = unit-stands (writing-run-stands (c .before .loop .inv) (omega (arith, c .loop-test .taken, c .before .before .before .before .before .before .before .pre .0)))
+
+mul-inverse-table : tie.Need-mul-inverse-table Inv-loop μ-loop
+mul-inverse-table c = search needs
+
+shared-slice-read-inverse-table : tie.Need-shared-slice-read-inverse-table Inv-loop μ-loop
+shared-slice-read-inverse-table c = search needs
+
+cast-inverse-table : tie.Need-cast-inverse-table Inv-loop μ-loop
+cast-inverse-table c = search needs
 
 inverse-table-requires : tie.Need-inverse-table-requires Inv-loop μ-loop
 inverse-table-requires c κs = search needs
@@ -31,25 +40,25 @@ sub-room : tie.Need-sub-room Inv-loop μ-loop
 sub-room c = search needs
 
 loop-holds : tie.Need-loop-holds Inv-loop μ-loop
-loop-holds c = writing-run-begin (c .before .before .before .pre .0) (c .before .before .before .pre .1)
+loop-holds c = writing-run-begin (omega (arith, c .before .before .before .before .before .pre .0)) (c .before .before .before .before .before .pre .1)
 
 add-value : tie.Need-add-value Inv-loop μ-loop
-add-value c = omega (arith, c .before .loop .inv .wrote .run .inside, c .before .before .before .before .before .good)
+add-value c = omega (arith, c .before .loop .inv .wrote .run .inside, c .before .before .before .before .before .before .before .good)
 
 mul-value : tie.Need-mul-value Inv-loop μ-loop
 mul-value c = search needs
 
 shared-slice-read-value : tie.Need-shared-slice-read-value Inv-loop μ-loop
-shared-slice-read-value c = omega (arith, c .before .loop-test .taken, c .before .before .before .before .before .before .pre .0)
+shared-slice-read-value c = omega (arith, c .before .loop-test .taken, c .before .before .before .before .before .before .before .before .pre .0)
 
 add-write : tie.Need-add-write Inv-loop μ-loop
-add-write c = omega (arith, c .before .before .before .before .loop .inv .room, c .before .before .before .before .before .before .before .before .good)
+add-write c = omega (arith, c .before .before .before .before .loop .inv .room, c .before .before .before .before .before .before .before .before .before .before .good)
 
 write-requires : tie.Need-write-requires Inv-loop μ-loop
-write-requires c κs = (c .before .before .before .before .before .inverse-table .ensures, character-small ucs4-laws (read (c .before .before .before)), writing-run-held (c .before .before .before .before .loop .inv) (read (c .before .before .before)) .1)
+write-requires c κs = (c .before .before .before .before .before .inverse-table .ensures .1, character-small ucs4-laws (read (c .before .before .before)), writing-run-held (c .before .before .before .before .loop .inv) (read (c .before .before .before)) .1)
 
 add-length : tie.Need-add-length Inv-loop μ-loop
-add-length c = omega (arith, character-onward (read (c .before .before .before .before .before .before)) .1, c .before .before .before .before .before .before .before .before .before .before .before .good)
+add-length c = omega (arith, character-onward (read (c .before .before .before .before .before .before)) .1, c .before .before .before .before .before .before .before .before .before .before .before .before .before .good)
 
 sub-units : tie.Need-sub-units Inv-loop μ-loop
 sub-units c = omega (arith, c .before .before .write .ensures .0)
@@ -72,6 +81,9 @@ write-spec =
     (tie.spec
     Inv-loop
     μ-loop
+    mul-inverse-table
+    shared-slice-read-inverse-table
+    cast-inverse-table
     inverse-table-requires
     sub-room
     loop-holds

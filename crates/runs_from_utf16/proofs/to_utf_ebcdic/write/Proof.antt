@@ -18,10 +18,19 @@ Inv-loop src at dst₀ written table room length₀ units₀ dst length units = 
 abbrev μ-loop : tie.MeasureT-loop
 μ-loop src at dst₀ written table room length₀ units₀ dst length units = room - length
 
-read : (c : tie.Else1 Inv-loop μ-loop) → let z = c .before .before .before .before .before .before .before .args in
+read : (c : tie.Else1 Inv-loop μ-loop) → let z = c .before .before .before .before .before .before .before .before .before .args in
     let p = z .at + c .before .before .before .loop .length in
     CharacterAt utf16 (now (z .src)) p (c .before .short-at .result .value) (span p (c .before .short-at .result .length))
 read c = c .before .short-at .ensures .character (c .if1 .left)
+
+mul-inverse-table : tie.Need-mul-inverse-table Inv-loop μ-loop
+mul-inverse-table c = search needs
+
+shared-slice-read-inverse-table : tie.Need-shared-slice-read-inverse-table Inv-loop μ-loop
+shared-slice-read-inverse-table c = search needs
+
+cast-inverse-table : tie.Need-cast-inverse-table Inv-loop μ-loop
+cast-inverse-table c = search needs
 
 inverse-table-requires : tie.Need-inverse-table-requires Inv-loop μ-loop
 inverse-table-requires c κs = search needs
@@ -30,13 +39,13 @@ sub-room : tie.Need-sub-room Inv-loop μ-loop
 sub-room c = search needs
 
 loop-holds : tie.Need-loop-holds Inv-loop μ-loop
-loop-holds c = writing-run-begin (c .before .before .before .pre .0) (c .before .before .before .pre .1)
+loop-holds c = writing-run-begin (omega (arith, c .before .before .before .before .before .pre .0)) (c .before .before .before .before .before .pre .1)
 
 add-short-at : tie.Need-add-short-at Inv-loop μ-loop
-add-short-at c = omega (arith, c .before .loop .inv .wrote .run .inside, c .before .before .before .before .before .good)
+add-short-at c = omega (arith, c .before .loop .inv .wrote .run .inside, c .before .before .before .before .before .before .before .good)
 
 short-at-requires : tie.Need-short-at-requires Inv-loop μ-loop
-short-at-requires c κs = omega (arith, c .loop-test .taken, c .before .before .before .before .before .pre .0)
+short-at-requires c κs = omega (arith, c .loop-test .taken, c .before .before .before .before .before .before .before .pre .0)
 
 same-length : tie.Need-same-length Inv-loop μ-loop
 same-length c = c .before .before .before .loop .inv .same
@@ -45,13 +54,13 @@ returns : tie.Need-returns Inv-loop μ-loop
 returns c = c .before .before .before .loop .inv .wrote
 
 add-write : tie.Need-add-write Inv-loop μ-loop
-add-write c = omega (arith, c .before .before .before .before .before .loop .inv .room, c .before .before .before .before .before .before .before .before .before .good)
+add-write c = omega (arith, c .before .before .before .before .before .loop .inv .room, c .before .before .before .before .before .before .before .before .before .before .before .good)
 
 write-requires : tie.Need-write-requires Inv-loop μ-loop
-write-requires c κs = (c .before .before .before .before .before .before .inverse-table .ensures, character-small utf16-laws (read (c .before .before)), writing-run-held (c .before .before .before .before .before .loop .inv) (read (c .before .before)) .1)
+write-requires c κs = (c .before .before .before .before .before .before .inverse-table .ensures .1, character-small utf16-laws (read (c .before .before)), writing-run-held (c .before .before .before .before .before .loop .inv) (read (c .before .before)) .1)
 
 add-length : tie.Need-add-length Inv-loop μ-loop
-add-length c = omega (arith, character-onward (read (c .before .before .before .before .before)) .1, c .before .before .before .before .before .before .before .before .before .before .before .before .good)
+add-length c = omega (arith, character-onward (read (c .before .before .before .before .before)) .1, c .before .before .before .before .before .before .before .before .before .before .before .before .before .before .good)
 
 sub-units : tie.Need-sub-units Inv-loop μ-loop
 sub-units c = omega (arith, c .before .before .write .ensures .0)
@@ -74,6 +83,9 @@ write-spec =
     (tie.spec
     Inv-loop
     μ-loop
+    mul-inverse-table
+    shared-slice-read-inverse-table
+    cast-inverse-table
     inverse-table-requires
     sub-room
     loop-holds

@@ -1,5 +1,6 @@
 use Rattle.laws.proofs.Runs.{wrote-none}
 use borrow.Author.Needs.{needs}
+use native.Mathlib.Omega.{arith}
 use Rattle.transcode.proofs.from_bytes.to_bytes.write_fss_utf_run.Statement.{statement}
 use Rattle.transcode.proofs.from_bytes.to_bytes.write_fss_utf_run.Tie as tie
 
@@ -13,7 +14,7 @@ write-requires : tie.Need-write-requires
 write-requires c κs = rw (c .before .enum-told2 .given .1) at (c .before .before .before .before .before .pre)
 
 returns : tie.Need-returns
-returns c = wrote-none (c .before .before .before .before .pre .0)
+returns c = wrote-none (omega (arith, c .before .before .before .before .pre .0))
 
 same-length : tie.Need-same-length
 same-length c = search needs

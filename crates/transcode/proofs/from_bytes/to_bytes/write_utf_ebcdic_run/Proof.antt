@@ -1,5 +1,6 @@
 use Rattle.laws.proofs.Runs.{wrote-none}
 use borrow.Author.Needs.{needs}
+use native.Mathlib.Omega.{arith}
 use Rattle.transcode.proofs.from_bytes.to_bytes.write_utf_ebcdic_run.Statement.{statement}
 use Rattle.transcode.proofs.from_bytes.to_bytes.write_utf_ebcdic_run.Tie as tie
 
@@ -19,7 +20,7 @@ returns : tie.Need-returns
 returns c = rw (c .before .before .before .before .enum-told .given .1) (c .before .before .write .ensures)
 
 returns-2 : tie.Need-returns-2
-returns-2 c = wrote-none (c .before .before .before .before .pre .0)
+returns-2 c = wrote-none (omega (arith, c .before .before .before .before .pre .0))
 
 pub write-utf-ebcdic-run-spec : {M : Type 1} → statement M
 write-utf-ebcdic-run-spec =
