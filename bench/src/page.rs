@@ -380,12 +380,16 @@ fn library(page: &mut String, sizes: &Sizes, depths: &[(&'static str, usize)]) {
     row("a lossy decoding", "_decode_lossy");
     row("an item at an offset", "_item_at");
     row("an item start", "_item_start");
+    let mut uses = String::new();
+    for (what, bytes) in &sizes.by_use {
+        let _ = writeln!(uses, "| of these {what} | {} bytes |", thousands(*bytes));
+    }
     let _ = write!(
         page,
         "## Sizes\n\n\
          | what | how much |\n|---|---|\n\
          | code | {} bytes |\n\
-         | constants | {} bytes |\n{rows}\n",
+         | constants | {} bytes |\n{uses}{rows}\n",
         thousands(sizes.code),
         thousands(sizes.constants),
     );
