@@ -1,12 +1,12 @@
 -- How many trailing bytes a value's encoding has: counted up from 0 by the lowest values.
-use Prim.Native.Nat.{ℕ, zero, suc, _+_, _-_, _≤_, _<_}
+use Prim.Native.Nat.{ℕ, _+_, _-_, _≤_, _<_}
 use mathlib.Core.Path.{_≡_, refl, sym, _∙_}
 use native.Mathlib.Omega.{arith}
 use native.Mathlib.Numerals.{add-one}
 use native.Mathlib.Decide.{decLt}
 use lib.ListN.{length}
 use Rattle.forms.specs.Form.{encode}
-use Rattle.forms.specs.Layout.{rowLimit, lowestOf}
+use Rattle.forms.specs.Layout.{lowestOf}
 use Rattle.tables.specs.ByteForms.{byteForm, layoutOf}
 use Rattle.tables.specs.declared.ByteForm.{ByteForm}
 use Rattle.tables.specs.declared.ByteForm.the-variants.{FssUtf, UtfEbcdic}

@@ -1,17 +1,16 @@
 -- A text of a byte form, each byte as the byte of the layout that it stands for: it reads alike.
-use Prim.Native.Nat.{ℕ, zero, suc, _+_, _-_, _≤_, _<_}
+use Prim.Native.Nat.{ℕ, zero, suc, _+_, _-_, _<_}
 use mathlib.Core.Path.{_≡_, refl, sym, ap, _∙_}
 use mathlib.Core.Bool.{false}
 use mathlib.Core.List.{List, [], _∷_, map, map-id}
 use native.Mathlib.Omega.{arith}
 use lib.ListN.{length, getD, drop, length-map, List·getD-map}
-use Rattle.forms.specs.Form.{Role, lead, trailing, invalid, Sequence, Form, isTrailing, firstOf, itemOf}
-use Rattle.forms.specs.Layout.{Layout, roleOf, formOf}
+use Rattle.forms.specs.Form.{Role, lead, trailing, invalid, Form, isTrailing, firstOf, itemOf}
+use Rattle.forms.specs.Layout.{roleOf, formOf}
 use Rattle.forms.specs.Exchange.{i8Of, ebcdicOf}
-use Rattle.forms.specs.Forms.{byteLayout, fssUtf, i8, utfEbcdic}
+use Rattle.forms.specs.Forms.{i8, utfEbcdic}
 use Rattle.laws.proofs.LayoutLaws.{InRow, in-row}
 use Rattle.laws.proofs.Exchanged.{item-exchanged, first-exchanged}
-use Rattle.laws.proofs.ExchangeTable.{exchange-byte}
 use Rattle.tables.specs.ByteForms.{byteForm, layoutOf, plainOf, roleNumber}
 use Rattle.tables.specs.declared.ByteForm.{ByteForm}
 use Rattle.tables.specs.declared.ByteForm.the-variants.{FssUtf, UtfEbcdic}

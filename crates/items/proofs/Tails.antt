@@ -1,14 +1,14 @@
 -- The loop that joins a lead's trailing units: what it keeps, and how a turn changes it.
 use Prim.Native.Nat.{ℕ, zero, suc, _+_, _*_, _-_, _^_, _≤_, _<_}
 use mathlib.Core.Path.{_≡_, refl, sym, ap, _∙_}
-use mathlib.Core.Bool.{true, false}
+use mathlib.Core.Bool.{false}
 use mathlib.Core.List.{List, [], _∷_}
 use native.Mathlib.Omega.{arith}
-use native.Mathlib.Nat.{pow-zero, pow-succ', mul-assoc, mul-comm, add-mul, one-mul, mul-le-mul-right, le-trans, one-le-pow, le-mul-of-pos-right}
+use native.Mathlib.Nat.{pow-zero, pow-succ', mul-assoc, add-mul, one-mul, mul-le-mul-right, le-trans, one-le-pow, le-mul-of-pos-right}
 use native.Mathlib.Numerals.{add-one}
 use lib.ListN.{length, getD, drop, drop-of-length-le}
 use lib.Seq.{drop-cons}
-use Rattle.forms.specs.Form.{Role, trailing, Form, isTrailing, taken}
+use Rattle.forms.specs.Form.{trailing, Form, isTrailing, taken}
 use Rattle.forms.specs.Layout.{Layout, roleOf, number, formOf}
 use Rattle.laws.proofs.Digits.{IsDigit}
 use Rattle.laws.proofs.LayoutLaws.{trailing-digit}

@@ -1,13 +1,13 @@
-use Prim.Native.Nat.{ℕ, _+_, _*_, _-_, _^_, _<_, _≤_}
-use mathlib.Core.Path.{_≡_, _∙_, ap, sym}
+use Prim.Native.Nat.{_+_, _*_, _-_, _^_, _≤_}
+use mathlib.Core.Path.{_≡_}
 use native.Mathlib.Omega.{arith}
 use borrow.Author.Needs.{needs}
-use lib.ListN.{getD, length}
+use lib.ListN.{getD}
 use denote.Ref.{now}
 use Rattle.laws.proofs.Digits.{IsDigit}
 use Rattle.tables.specs.ByteForms.{byteForm, layoutOf, plainOf, roleNumber}
 use Rattle.tables.proofs.Agreement.{byte-role}
-use Rattle.items.proofs.Tails.{JoiningBytes, bytes-begin, bytes-inside, bytes-fit, bytes-end, bytes-asked, bytes-other, bytes-digit, bytes-more}
+use Rattle.items.proofs.Tails.{JoiningBytes, bytes-begin, bytes-fit, bytes-end, bytes-asked, bytes-other, bytes-digit, bytes-more}
 use Rattle.items.proofs.bytes.tail_at.Statement.{statement}
 use Rattle.items.proofs.bytes.tail_at.Tie as tie
 

@@ -1,5 +1,4 @@
-use Prim.Native.Nat.{_+_, _-_, _≤_, _<_}
-use mathlib.Core.Path.{_≡_}
+use Prim.Native.Nat.{_+_, _-_}
 use lib.ListN.{length, getD}
 use denote.Ref.{now}
 use Rattle.forms.specs.Form.{span}

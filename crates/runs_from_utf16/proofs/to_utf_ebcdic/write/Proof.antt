@@ -1,12 +1,11 @@
-use Prim.Native.Nat.{_+_, _-_, _≤_, _<_}
-use mathlib.Core.Path.{_≡_}
-use lib.ListN.{length, getD}
+use Prim.Native.Nat.{_+_, _-_}
+use lib.ListN.{length}
 use denote.Ref.{now}
 use Rattle.forms.specs.Form.{span}
 use Rattle.forms.specs.Forms.{utf16, utfEbcdic}
 use Rattle.laws.proofs.Progress.{CharacterAt, character-small, character-onward}
 use Rattle.laws.proofs.FourForms.{utf16-laws}
-use Rattle.laws.proofs.Runs.{WritingRun, writing-run-begin, writing-run-stands, writing-run-held, writing-run-more}
+use Rattle.laws.proofs.Runs.{WritingRun, writing-run-begin, writing-run-held, writing-run-more}
 use borrow.Author.Needs.{needs}
 use native.Mathlib.Omega.{arith}
 use Rattle.runs_from_utf16.proofs.to_utf_ebcdic.write.Statement.{statement}
