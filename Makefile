@@ -44,7 +44,7 @@ $(archive): $(sources)
 
 # Times the library against other converters, and writes the figures to docs/SPEED.md and docs/speed.svg.
 bench: library
-	@tests/needs cargo gcc size
+	@tests/needs cargo gcc size objdump
 	cargo build --quiet --release --offline --manifest-path bench/Cargo.toml
 	./bench/target/release/bench
 	@echo "README's table:"; tests/speed

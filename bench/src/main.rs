@@ -31,7 +31,7 @@ use second::{library, random, reference};
 use std::env;
 use std::fs;
 use std::io::{self, ErrorKind, Write};
-use std::path::Path;
+use std::path::{Path, PathBuf};
 use std::process::ExitCode;
 
 use groups::{Figures, Run, Stop};
@@ -41,7 +41,7 @@ use timing::Effort;
 const USAGE: &str = "usage: bench [--quick] [--check] [--no-write] [--only WORDS]
 
   --quick       fewer rounds; prints only
-  --check       compares all results and times nothing
+  --check       compares all results, and the sizes with those of docs/SPEED.md, and times nothing
   --no-write    prints, and leaves docs/SPEED.md and docs/speed.svg as they are
   --only WORDS  only cases whose name has these words, as 'fss_utf_to_utf16' or
                 'utf16_to_ucs4 CJK 40 bytes'; prints only";
@@ -140,10 +140,29 @@ fn run(arguments: &Arguments, out: &mut dyn Write) -> Result<(), Stop> {
         out,
         "\nthe results of all contestants agree in {compared} cases"
     )?;
+    if arguments.check && arguments.only.is_empty() {
+        check_sizes()?;
+    }
     if let Some(effort) = effort.filter(|_| arguments.write) {
         write_page(out, &figures, effort)?;
     }
     Ok(())
+}
+
+fn docs() -> PathBuf {
+    Path::new(env!("CARGO_MANIFEST_DIR")).join("../docs")
+}
+
+/// The page has the sizes of the archive that was linked.
+fn check_sizes() -> Result<(), Stop> {
+    let rows = page::size_rows(&sizes::of_archive().map_err(Stop::Failed)?);
+    if fs::read_to_string(docs().join("SPEED.md"))?.contains(&rows) {
+        Ok(())
+    } else {
+        Err(Stop::Failed(format!(
+            "docs/SPEED.md has other sizes than the archive:\n{rows}"
+        )))
+    }
 }
 
 /// The targets that this run can say something about.
@@ -170,7 +189,7 @@ fn print_targets(out: &mut dyn Write, figures: &[Figures]) -> io::Result<()> {
 }
 
 fn write_page(out: &mut dyn Write, figures: &[Figures], effort: Effort) -> Result<(), Stop> {
-    let docs = Path::new(env!("CARGO_MANIFEST_DIR")).join("../docs");
+    let docs = docs();
     let sizes = sizes::of_archive().map_err(Stop::Failed)?;
     let page = page::figures(figures, effort, &sizes, &stack::depths());
     page::update(&docs.join("SPEED.md"), &page).map_err(Stop::Failed)?;

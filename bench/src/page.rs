@@ -360,10 +360,6 @@ fn library(page: &mut String, sizes: &Sizes, depths: &[(&'static str, usize)]) {
         _ => name,
     };
     let mut rows = String::new();
-    let thousands = |bytes: usize| match bytes {
-        1000.. => format!("{},{:03}", bytes / 1000, bytes % 1000),
-        _ => bytes.to_string(),
-    };
     let mut row = |what: &str, end: &str| {
         let deepest = depths.iter().find(|(name, _)| kind(name).ends_with(end));
         if let Some((name, bytes)) = deepest {
@@ -380,19 +376,33 @@ fn library(page: &mut String, sizes: &Sizes, depths: &[(&'static str, usize)]) {
     row("a lossy decoding", "_decode_lossy");
     row("an item at an offset", "_item_at");
     row("an item start", "_item_start");
-    let mut uses = String::new();
-    for (what, bytes) in &sizes.by_use {
-        let _ = writeln!(uses, "| of these {what} | {} bytes |", thousands(*bytes));
-    }
     let _ = write!(
         page,
         "## Sizes\n\n\
          | what | how much |\n|---|---|\n\
-         | code | {} bytes |\n\
-         | constants | {} bytes |\n{uses}{rows}\n",
+         {}{rows}\n",
+        size_rows(sizes),
+    );
+}
+
+fn thousands(bytes: usize) -> String {
+    match bytes {
+        1000.. => format!("{},{:03}", bytes / 1000, bytes % 1000),
+        _ => bytes.to_string(),
+    }
+}
+
+/// The rows of the archive's sizes, which `--check` holds the page to.
+pub fn size_rows(sizes: &Sizes) -> String {
+    let mut rows = format!(
+        "| code | {} bytes |\n| constants | {} bytes |\n",
         thousands(sizes.code),
         thousands(sizes.constants),
     );
+    for (what, bytes) in &sizes.by_use {
+        let _ = writeln!(rows, "| of these {what} | {} bytes |", thousands(*bytes));
+    }
+    rows
 }
 
 #[cfg(test)]

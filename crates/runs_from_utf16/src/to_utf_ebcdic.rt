@@ -1,4 +1,4 @@
-// To UTF-EBCDIC. A run copies the inverse table once and looks up in the copy.
+// To UTF-EBCDIC. A run copies the inverse table once and looks up in the copy; of the byte that `inverse_table` looks up it makes no use.
 use types::Run;
 ghost use Prim.Native.Nat.{_<_};
 ghost use lib.ListN.{length};
