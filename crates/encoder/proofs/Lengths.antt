@@ -17,7 +17,7 @@ pub record Counting (f : ByteForm) (v k : ℕ) : Type 0 where
   pub inside : k < length (layoutOf f .rows)
   pub least : lowestOf (layoutOf f) k ≤ v
 
-pub rows : (f : ByteForm) → (0 < length (layoutOf f .rows)) × (length (layoutOf f .rows) ≤ 7)
+pub rows : (f : ByteForm) → (6 ≤ length (layoutOf f .rows)) × (length (layoutOf f .rows) ≤ 7)
 rows FssUtf = (omega arith, omega arith)
 rows UtfEbcdic = (omega arith, omega arith)
 
@@ -27,7 +27,7 @@ top FssUtf = refl
 top UtfEbcdic = refl
 
 pub counting-begin : (f : ByteForm) (v : ℕ) → Counting f v 0
-counting-begin f v = record { inside = rows f .0; least = omega arith }
+counting-begin f v = record { inside = omega (arith, rows f); least = omega arith }
 
 pub counting-more : (f : ByteForm) (v k n : ℕ) → v < 0x80000000 → Counting f v k → n ≡ lowestOf (layoutOf f) (k + 1) → n ≤ v → Counting f v (k + 1)
 counting-more f v k n s c e l = record { inside = go (decLt (k + 1) (length (layoutOf f .rows))); least = omega arith }
@@ -41,8 +41,7 @@ counting-more f v k n s c e l = record { inside = go (decLt (k + 1) (length (lay
 pub counting-end : (f : ByteForm) (v k n : ℕ) → v < 0x80000000 → Counting f v k → n ≡ lowestOf (layoutOf f) (k + 1) → v < n → length (encode (byteForm f) v) ≡ k + 1
 counting-end f v k n s c e l = encode-length f v s k (c .inside) (c .least) (rw (add-one k) at (rw e at l)) ∙ sym (add-one k)
 
--- where six trailing bytes are the least there is no longer length
-pub counting-last : (f : ByteForm) (v : ℕ) → v < 0x80000000 → Counting f v 6 → length (encode (byteForm f) v) ≡ 7
-counting-last f v s c =
-    let q : length (layoutOf f .rows) ≡ 7 = omega (arith, c .inside, rows f) in
-    counting-end f v 6 0x80000000 s c (rw q at (sym (top f))) s
+-- what no six bytes hold has seven
+pub seven-bytes : (f : ByteForm) (v : ℕ) → v < 0x80000000 → lowestOf (layoutOf f) 6 ≤ v → 7 ≡ length (encode (byteForm f) v)
+seven-bytes FssUtf v s l = absurd (omega arith)
+seven-bytes UtfEbcdic v s l = sym (encode-length UtfEbcdic v s 6 (omega arith) l s)

@@ -43,12 +43,14 @@ flaggedBy k b = cond (inRange k (i8Of b)) (eqb (getD flags k 0) (flagOf b)) true
 -- one test of all 256 bytes, each with the range that its I8 byte is in
 pub flag-of-range :
     (k plain : ℕ) → k < 10 → getD firsts k 0 ≤ plain → plain < getD firsts (suc k) 0 → Flagged plain (getD flags k 0)
-flag-of-range k plain h l m = record { each = go }
-  where
-    go : (b : ℕ) → b < 0x100 → i8Of b ≡ plain → getD flags k 0 ≡ flagOf b
-    go b j e =
-        let t = below 10 (λ i. flaggedBy i b) (below 0x100 (λ x. allBelow 10 (λ i. flaggedBy i x)) refl b j) k h in
-        eqb-true _ _ (rw (le-leb (getD firsts k 0) (i8Of b) (rw e l), lt-ltb (i8Of b) (getD firsts (suc k) 0) (rw e m)) at t)
+flag-of-range k plain h l m =
+    record {
+      each = λ b j e.
+          let t = below 10 (λ i. flaggedBy i b) (below 0x100 (λ x. allBelow 10 (λ i. flaggedBy i x)) refl b j) k h in
+          let from : getD firsts k 0 ≤ i8Of b = omega (arith, e, l) in
+          let to : i8Of b < getD firsts (suc k) 0 = omega (arith, e, m) in
+          eqb-true _ _ (rw (le-leb (getD firsts k 0) (i8Of b) from, lt-ltb (i8Of b) (getD firsts (suc k) 0) to) at t);
+    }
 
 -- the flag of a byte that stands alone is 0 or 1; any other flag is the role's number
 flag-role : (x : ℕ) → x < 0x100 → cond (eqb (flagOf (ebcdicOf x)) 0) 1 (flagOf (ebcdicOf x)) ≡ roleNumber (roleOf (byteLayout 5 7) x)
