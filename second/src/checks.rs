@@ -104,6 +104,16 @@ pub fn one_character<F: ToOthers>(
     });
 }
 
+/// `one_character`, but where the paper gives a value that request 104 says is
+/// none: one mark over all its units.
+pub fn one_value<F: ToOthers>(group: &mut Group, source: impl Display, value: u32, units: &[u32]) {
+    if reference::is_surrogate(value) {
+        three_ways::<F>(group, &source, units, &[mark(10, units.len())]);
+    } else {
+        one_character::<F>(group, &source, value, units);
+    }
+}
+
 /// The UTF-EBCDIC bytes of I8 bytes, as numbers.
 pub fn from_i8(i8_bytes: &[u32]) -> Vec<u32> {
     i8_bytes

@@ -1,7 +1,7 @@
 //! Random texts, good and damaged, from a fixed seed.
 
 use crate::reference::{
-    Form, FssUtf, Layout, Ucs4, Utf16, UtfEbcdic, FSS_UTF, HIGHEST_VALUE, I8, I8_TO_UTF_EBCDIC,
+    is_surrogate, Form, FssUtf, Layout, Ucs4, Utf16, UtfEbcdic, FSS_UTF, HIGHEST_VALUE, I8, I8_TO_UTF_EBCDIC,
 };
 
 /// Every run draws the same texts.
@@ -77,9 +77,18 @@ fn telling_byte(layout: &Layout, random: &mut Random) -> u8 {
     }
 }
 
+/// A value that is a character: one in eight stands next to the surrogates.
 fn layout_value(layout: &Layout, random: &mut Random) -> u32 {
-    let row = &layout.rows[random.below(layout.rows.len())];
-    near_ends(random, row.lowest, row.highest)
+    loop {
+        let row = &layout.rows[random.below(layout.rows.len())];
+        let value = match random.below(8) {
+            0 => random.pick(&[0xD7FE, 0xD7FF, 0xE000, 0xE001]),
+            _ => near_ends(random, row.lowest, row.highest),
+        };
+        if !is_surrogate(value) {
+            return value;
+        }
+    }
 }
 
 impl Drawn for FssUtf {
@@ -148,7 +157,7 @@ impl Drawn for Ucs4 {
         match random.below(3) {
             0 => layout_value(&FSS_UTF, random),
             1 => layout_value(&I8, random),
-            _ => random.between(0, HIGHEST_VALUE),
+            _ => random.between(0x1_0000, HIGHEST_VALUE),
         }
     }
 }
@@ -165,14 +174,19 @@ pub fn add_good<F: Drawn>(text: &mut Vec<F::Unit>, longest: usize, random: &mut 
     }
 }
 
-/// Loses, replaces or puts in a few units, up to three times.
+/// Loses, replaces or puts in a few units, up to three times. What is put in
+/// is a surrogate's sequence once in four times, where the form has one.
 pub fn damage<F: Drawn>(text: &mut Vec<F::Unit>, random: &mut Random) {
     for _ in 0..=random.below(3) {
         let few = 1 + random.below(3);
         let (lost, put_in) = random.pick(&[(few, 0), (few, few), (0, few)]);
         let start = random.below(text.len() + 1);
         let end = (start + lost).min(text.len());
-        let units: Vec<F::Unit> = (0..put_in).map(|_| F::telling_unit(random)).collect();
+        let surrogate = F::shortest(near_ends(random, 0xD800, 0xDFFF));
+        let units: Vec<F::Unit> = match surrogate {
+            Some(sequence) if put_in > 0 && random.below(4) == 0 => sequence.to_vec(),
+            _ => (0..put_in).map(|_| F::telling_unit(random)).collect(),
+        };
         text.splice(start..end, units);
     }
 }

@@ -98,8 +98,17 @@ pub trait Form {
     /// The free bits of a full sequence joined, first unit highest.
     fn join(sequence: &[Self::Unit]) -> u32;
 
-    /// The legal encoding of a value, where the form has one.
-    fn encode(value: u32) -> Option<Encoding<Self::Unit>>;
+    /// The shortest sequence of a value, where the form has one.
+    fn shortest(value: u32) -> Option<Encoding<Self::Unit>>;
+
+    /// The legal encoding of a value, where the form has one: the shortest
+    /// sequence of a value that is a character.
+    fn encode(value: u32) -> Option<Encoding<Self::Unit>> {
+        if is_surrogate(value) {
+            return None;
+        }
+        Self::shortest(value)
+    }
 
     /// The unit with this number. The caller knows that it fits.
     fn unit(number: u32) -> Self::Unit {
@@ -107,18 +116,32 @@ pub trait Form {
     }
 }
 
+/// Request 104: "Surrogate values are not characters."
+pub fn is_surrogate(value: u32) -> bool {
+    (0xD800..=0xDFFF).contains(&value)
+}
+
+/// A full sequence, no longer than its value needs.
+fn shortest_content(value: u32) -> Content {
+    if is_surrogate(value) {
+        Content::Mark(10)
+    } else {
+        Content::Character(value)
+    }
+}
+
 /// What the units of one item read as.
 pub fn content<F: Form>(item: &[F::Unit]) -> Content {
     match F::role(item[0]) {
-        Role::Single => Content::Character(F::join(item)),
+        Role::Single => shortest_content(F::join(item)),
         Role::Trailing => Content::Mark(3),
         Role::Unused => Content::Mark(4),
         Role::Lead(length) if item.len() < length => Content::Mark(2),
         Role::Lead(_) => {
             let value = F::join(item);
-            let shortest = F::encode(value).is_some_and(|legal| *legal == *item);
+            let shortest = F::shortest(value).is_some_and(|shortest| *shortest == *item);
             if shortest {
-                Content::Character(value)
+                shortest_content(value)
             } else {
                 Content::Mark(5)
             }
@@ -291,7 +314,7 @@ impl Layout {
         Some(Encoding::of(&bytes[..row.length]))
     }
 
-    fn encode(&self, value: u32) -> Option<Encoding<u8>> {
+    fn shortest(&self, value: u32) -> Option<Encoding<u8>> {
         let row = self
             .rows
             .iter()
@@ -316,8 +339,8 @@ impl Form for FssUtf {
         FSS_UTF.join(sequence)
     }
 
-    fn encode(value: u32) -> Option<Encoding<u8>> {
-        FSS_UTF.encode(value)
+    fn shortest(value: u32) -> Option<Encoding<u8>> {
+        FSS_UTF.shortest(value)
     }
 }
 
@@ -350,8 +373,8 @@ impl Form for UtfEbcdic {
         I8.join(&i8_bytes[..sequence.len()])
     }
 
-    fn encode(value: u32) -> Option<Encoding<u8>> {
-        I8.encode(value).map(|i8_bytes| exchanged(&i8_bytes))
+    fn shortest(value: u32) -> Option<Encoding<u8>> {
+        I8.shortest(value).map(|i8_bytes| exchanged(&i8_bytes))
     }
 }
 
@@ -380,7 +403,7 @@ impl Form for Utf16 {
         }
     }
 
-    fn encode(value: u32) -> Option<Encoding<u16>> {
+    fn shortest(value: u32) -> Option<Encoding<u16>> {
         match value {
             0xD800..=0xDFFF => None,
             0..=0xFFFF => Some(Encoding::of(&[value as u16])),
@@ -415,7 +438,7 @@ impl Form for Ucs4 {
         sequence[0]
     }
 
-    fn encode(value: u32) -> Option<Encoding<u32>> {
+    fn shortest(value: u32) -> Option<Encoding<u32>> {
         (value <= HIGHEST_VALUE).then(|| Encoding::of(&[value]))
     }
 }

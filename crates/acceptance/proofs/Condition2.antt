@@ -97,7 +97,7 @@ module _ (F G : Form) (most : ℕ → ℕ) (pair : Pair F G most) (known : Known
     pub conversion : Converted F G s d r o
     conversion =
         record {
-          exactly = exactly x r (c .answer) F G known s (pair .answers s (length d) .fault-1) (pair .answers s (length d) .item-fault);
+          exactly = exactly x r (c .answer) F G known (pair .beyond) s (pair .answers s (length d) .fault-1) (pair .answers s (length d) .item-fault);
           fault-7 = (
             (λ h. when-7 h .0),
             (λ w.
@@ -113,7 +113,7 @@ module _ (F G : Form) (most : ℕ → ℕ) (pair : Pair F G most) (known : Known
   pub measure : (s : List ℕ) (r : JkConversion) → MeasuresInC F G s r → Measured F G s r
   measure s r m =
       record {
-        exactly = exactly (outcome F G s) r (m .answer) F G known s (pair .lengths s .fault-1) (pair .lengths s .item-fault);
+        exactly = exactly (outcome F G s) r (m .answer) F G known (pair .beyond) s (pair .lengths s .fault-1) (pair .lengths s .item-fault);
         result =
             λ h.
             let u = no-fault (outcome F G s) r (m .answer) h in
@@ -179,11 +179,11 @@ module _ (F : Form) (known : Known F) (s : List ℕ) (q : ℕ) (r : JkItem) (e :
     mark-is : (k : ℕ) → r .kind ≡ 2 → r .fault ≡ k → (t : Content) → content F (firstOf F u us) ≡ t → Marks F u us k
     mark-is k h z (character x) y = absurd (omega (arith, ap (λ (b : JkItem). b .kind) (show (character x) y)))
     mark-is k h z (mark f) y =
-        subst (λ (n : ℕ). Marks F u us n) (sym (ap (λ (b : JkItem). b .fault) (show (mark f) y)) ∙ z) (marks-of F u us (known .carries) f y)
+        subst (λ (n : ℕ). Marks F u us n) (sym (ap (λ (b : JkItem). b .fault) (show (mark f) y)) ∙ z) (marks-of F u us (known .own) f y)
 
     shown-mark : (k : ℕ) → Marks F u us k → (r .kind ≡ 2) × (r .fault ≡ k)
     shown-mark k m =
-        let z = mark-of F u us k m in
+        let z = mark-of F u us (known .laws) k m in
         let y = show (mark (z .0)) (z .1) in
         (ap (λ (b : JkItem). b .kind) y, ap (λ (b : JkItem). b .fault) y ∙ sym (z .2))
 

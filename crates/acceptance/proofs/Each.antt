@@ -9,23 +9,23 @@ use Rattle.laws.proofs.FourForms.{fssUtf-laws, utfEbcdic-laws, utf16-laws, ucs4
 use Rattle.laws.proofs.Starts.{fssUtf-finds, utfEbcdic-finds, utf16-finds, ucs4-finds}
 use Rattle.laws.proofs.TwelvePairs.{fssUtf-utfEbcdic, fssUtf-utf16, fssUtf-ucs4, utfEbcdic-fssUtf, utfEbcdic-utf16, utfEbcdic-ucs4, utf16-fssUtf, utf16-utfEbcdic, utf16-ucs4, ucs4-fssUtf, ucs4-utfEbcdic, ucs4-utf16}
 use Rattle.acceptance.specs.Calls.{EachForm, EachPair}
-use Rattle.acceptance.proofs.Marking.{Carries}
-use Rattle.acceptance.proofs.FaultNumbers.{fssUtf-carries, utfEbcdic-carries, utf16-carries, ucs4-carries}
+use Rattle.acceptance.proofs.Marking.{OwnMarks}
+use Rattle.acceptance.proofs.FaultNumbers.{fssUtf-marks, utfEbcdic-marks, utf16-marks, ucs4-marks}
 
 -- what is known of a form
 pub record Known (F : Form) : Type 0 where
   pub laws : Laws F
-  pub carries : Carries F
+  pub own : OwnMarks F
   pub finds : Finds F
   pub positive : 0 < F .longest
 
 pub known : EachForm Known
 known =
     record {
-      fss-utf = record { laws = fssUtf-laws; carries = fssUtf-carries; finds = fssUtf-finds; positive = omega arith };
-      utf-ebcdic = record { laws = utfEbcdic-laws; carries = utfEbcdic-carries; finds = utfEbcdic-finds; positive = omega arith };
-      utf-16 = record { laws = utf16-laws; carries = utf16-carries; finds = utf16-finds; positive = omega arith };
-      ucs-4 = record { laws = ucs4-laws; carries = ucs4-carries; finds = ucs4-finds; positive = omega arith };
+      fss-utf = record { laws = fssUtf-laws; own = fssUtf-marks; finds = fssUtf-finds; positive = omega arith };
+      utf-ebcdic = record { laws = utfEbcdic-laws; own = utfEbcdic-marks; finds = utfEbcdic-finds; positive = omega arith };
+      utf-16 = record { laws = utf16-laws; own = utf16-marks; finds = utf16-finds; positive = omega arith };
+      ucs-4 = record { laws = ucs4-laws; own = ucs4-marks; finds = ucs4-finds; positive = omega arith };
     }
 
 pub each-form : (P : Form → Type 0) → ((F : Form) → Known F → P F) → EachForm P

@@ -1,32 +1,31 @@
--- Which units have no role, which values a target cannot hold, how many bits a byte form carries, and which faults marks have.
+-- Which units have no role, which values have a legal encoding, how many bits a byte form carries, and which faults marks have.
 use Prim.Native.Nat.{ℕ, zero, suc, _+_, _^_, _≤_, _<_}
 use mathlib.Core.Path.{_≡_, refl, sym, ap, _∙_}
-use mathlib.Core.Logic.{_≢_, _⊎_, inl, inr}
-use mathlib.Core.Bool.{Bool, true, false, not, cond, _||_}
+use mathlib.Core.Logic.{_≢_, _⊎_, inl, inr, ⊎-elim, _↔_}
+use mathlib.Core.Bool.{Bool, true, false, not}
 use mathlib.Core.List.{List, [], _∷_, map}
-use mathlib.Core.Option.{Option, none, some}
+use mathlib.Core.Option.{none}
 use native.Mathlib.Omega.{arith}
 use native.Mathlib.Decide.{decLt}
-use lib.Dec.{ltb}
-use borrow.Author.Tests.{le-ltb, lt-ltb, not-true}
+use borrow.Author.Tests.{le-ltb, not-true}
 use lib.ListN.{length, length-map}
-use Rattle.types.specs.declared.Fault.the-variants.{Unrepresentable}
-use Rattle.forms.specs.Form.{Role, lead, trailing, invalid, Sequence, sequence, size, Form, asked, taken, firstOf, unless, encode}
+use Rattle.forms.specs.Form.{Role, lead, trailing, invalid, Sequence, sequence, size, Form, asked, taken, firstOf, encode}
 use Rattle.forms.specs.Layout.{Layout, rowAt, valueOf, formOf}
-use Rattle.forms.specs.Exchange.{i8Of}
-use Rattle.forms.specs.Forms.{byteLayout, isSurrogate, utf16Layout, ucs4Layout, fssUtf, i8, utfEbcdic, utf16, ucs4}
+use Rattle.forms.specs.Exchange.{i8Of, ebcdicOf}
+use Rattle.forms.specs.Forms.{byteLayout, noCharacter, utf16Layout, ucs4Layout, fssUtf, i8, utfEbcdic, utf16, ucs4}
 use Rattle.laws.proofs.FormLaws.{Laws}
 use Rattle.laws.proofs.Table.{below}
-use Rattle.laws.proofs.Rows.{within-in, within-below, within-above, lead-injective, trailing-lead}
+use Rattle.laws.proofs.Rows.{lead-injective, trailing-lead}
 use Rattle.laws.specs.LayoutTable.{Full, AllTrailing}
 use Rattle.laws.proofs.Sequences.{taken-trailing}
-use Rattle.laws.proofs.Characters.{encodable-small}
+use Rattle.laws.proofs.Carried.{free-below, free-above, outside, encodable, encodable-small, encodable-free}
+use Rattle.laws.proofs.UnitEncodings.{below-limit}
 use Rattle.laws.proofs.LayoutLaws.{Fit, in-row, trailing-digit, value-small, value-limit, full-spelling, length-shortest, at-least}
 use Rattle.laws.proofs.AscendingRows.{leads-of-row}
 use Rattle.laws.proofs.Exchanged.{exchangedSequence}
 use Rattle.laws.proofs.FourForms.{fssUtf-fits, i8-fits, ucs4-fits, utf16-fits, utf16-rise, fssUtf-invalid, ucs4-invalid, low-alone, high-alone, high-unit, low-unit, fssUtf-laws, utfEbcdic-laws, utf16-laws, ucs4-laws}
-use Rattle.acceptance.specs.FaultNumbers.{Among, Marks, too-few, stray, no-role, too-long, NoRole, Held, FreeBits, ByteForms}
-use Rattle.acceptance.proofs.Marking.{Carries}
+use Rattle.acceptance.specs.FaultNumbers.{Among, Marks, too-few, stray, no-role, too-long, no-character, NoRole, NoSurrogate, Held, FreeBits, ByteForms}
+use Rattle.acceptance.proofs.Marking.{OwnMarks}
 
 -- 4: units without a role
 abbrev isInvalid : Role → Bool
@@ -71,51 +70,35 @@ no-role-is =
       ucs-4 = λ u h. ((λ e. large u e (decLt u 0x80000000)), (λ w. ucs4-invalid u w));
     }
 
--- 6: values that a target cannot hold
-carried-by : (F : Form) → Laws F → (v : ℕ) → v < 0x80000000 → F .excluded v ≡ none → encode F v ≢ []
-carried-by F laws v h e n = laws .carries v h e (ap (λ (o : Option _). unless o (F .shortest v)) (sym e) ∙ n)
+-- the values that have a legal encoding
+free : (v : ℕ) → NoSurrogate v → noCharacter v ≡ none
+free v (inl h) = free-below v h
+free v (inr h) = free-above v (omega arith)
 
-utf16-excluded : (v : ℕ) (b : Bool) → (isSurrogate v || ltb 0x10FFFF v) ≡ b → utf16 .excluded v ≡ cond b (some Unrepresentable) none
-utf16-excluded v b e = ap (λ (x : Bool). cond x (some Unrepresentable) none) e
-
-utf16-free : (v : ℕ) → (v < 0xD800) ⊎ (0xDFFF < v) → v ≤ 0x10FFFF → utf16 .excluded v ≡ none
-utf16-free v (inl h) l = utf16-excluded v false (rw (within-below 0xD800 0xDFFF v h, le-ltb 0x10FFFF v l))
-utf16-free v (inr h) l = utf16-excluded v false (rw (within-above 0xD800 0xDFFF v h, le-ltb 0x10FFFF v l))
-
-abbrev Beyond : ℕ → Type 0
-Beyond v = ((0xD800 ≤ v) × (v ≤ 0xDFFF)) ⊎ (0x10FFFF < v)
-
-utf16-none : (v : ℕ) → Beyond v → encode utf16 v ≡ []
-utf16-none v w = ap (λ (o : Option _). unless o (utf16 .shortest v)) (utf16-excluded v true (go w))
+no-surrogate : (v : ℕ) → noCharacter v ≡ none → NoSurrogate v
+no-surrogate v e = go (decLt v 0xD800)
   where
-    or-right : (x : Bool) {y : Bool} → y ≡ true → (x || y) ≡ true
-    or-right true e = refl
-    or-right false e = e
+    go : Dec (v < 0xD800) → NoSurrogate v
+    go (yes h) = inl h
+    go (no h) = inr (omega (arith, outside v e (omega arith)))
 
-    go : Beyond v → (isSurrogate v || ltb 0x10FFFF v) ≡ true
-    go (inl x) = rw (within-in 0xD800 0xDFFF v (x .0) (x .1))
-    go (inr x) = or-right (isSurrogate v) (lt-ltb 0x10FFFF v x)
-
-utf16-beyond : (v : ℕ) → v < 0x80000000 → encode utf16 v ≡ [] → Dec (v < 0xD800) → Dec (0xDFFF < v) → Dec (0x10FFFF < v) → Beyond v
-utf16-beyond v h e a b (yes c) = inr c
-utf16-beyond v h e (no a) (no b) (no c) = inl (omega arith, omega arith)
-utf16-beyond v h e (yes a) b (no c) = absurd (carried-by utf16 utf16-laws v h (utf16-free v (inl a) (omega arith)) e)
-utf16-beyond v h e (no a) (yes b) (no c) = absurd (carried-by utf16 utf16-laws v h (utf16-free v (inr b) (omega arith)) e)
+has-one : (F : Form) → Laws F → ((v : ℕ) → F .excluded v ≡ noCharacter v) → (v : ℕ) → (encode F v ≢ []) ↔ ((v ≤ 0x7FFFFFFF) × NoSurrogate v)
+has-one F laws own v = (
+  (λ n. (omega (arith, encodable-small F laws v n), no-surrogate v (encodable-free F laws v n))),
+  (λ w. encodable F laws v (omega (arith, w .0)) (own v ∙ free v (w .1))),
+)
 
 pub values-held : Held
 values-held =
     record {
-      values =
-          record {
-            fss-utf = encodable-small fssUtf fssUtf-laws;
-            utf-ebcdic = encodable-small utfEbcdic utfEbcdic-laws;
-            utf-16 = encodable-small utf16 utf16-laws;
-            ucs-4 = encodable-small ucs4 ucs4-laws;
-          };
-      fss-utf = λ v h. carried-by fssUtf fssUtf-laws v h refl;
-      utf-ebcdic = λ v h. carried-by utfEbcdic utfEbcdic-laws v h refl;
-      utf-16 = λ v h. ((λ e. utf16-beyond v h e (decLt v 0xD800) (decLt 0xDFFF v) (decLt 0x10FFFF v)), utf16-none v);
-      ucs-4 = λ v h. carried-by ucs4 ucs4-laws v h refl;
+      fss-utf = λ v. has-one fssUtf fssUtf-laws (λ v. refl) v;
+      utf-ebcdic = λ v. has-one utfEbcdic utfEbcdic-laws (λ v. refl) v;
+      utf-16 =
+          λ v. (
+            (λ n. (omega (arith, below-limit v n), no-surrogate v (encodable-free utf16 utf16-laws v n))),
+            (λ w. encodable utf16 utf16-laws v (omega (arith, w .0)) (rw (free v (w .1), le-ltb 0x10FFFF v (w .0)))),
+          );
+      ucs-4 = λ v. has-one ucs4 ucs4-laws (λ v. refl) v;
     }
 
 -- the free bits of a layout, by a sequence that has them all
@@ -168,34 +151,56 @@ free-bits =
       utf-ebcdic = utfEbcdic-bits _ _ refl refl;
     }
 
--- no full sequence has a value that its form excludes
-pub fssUtf-carries : Carries fssUtf
-fssUtf-carries c f = refl
+-- what marks go by, in each form
+spelled-so : (L : Layout) (fits : Fit L) (c : Sequence) → Full (formOf L) c → formOf L .shortest (valueOf L c) ≢ []
+spelled-so L fits c f n = let z = full-spelling L fits c f in absurd (omega (arith, length-shortest L fits (valueOf L c) z, ap length n))
 
-pub utfEbcdic-carries : Carries utfEbcdic
-utfEbcdic-carries c f = refl
+pub fssUtf-marks : OwnMarks fssUtf
+fssUtf-marks = record { excludes = λ c f. refl; spells = spelled-so (byteLayout 6 6) fssUtf-fits }
 
-utf16-alone : (u : ℕ) → utf16 .role u ≡ lead 0 → Dec (u < 0xD800) → Dec (u < 0xDC00) → Dec (0xDFFF < u) → (u < 0xD800) ⊎ (0xDFFF < u)
+pub utfEbcdic-marks : OwnMarks utfEbcdic
+utfEbcdic-marks =
+    record {
+      excludes = λ c f. refl;
+      spells =
+          λ c f n.
+          let d = exchangedSequence i8Of c in
+          spelled-so (byteLayout 5 7) i8-fits d (full-i8 c f) (nothing (i8 .shortest (i8 .value d)) n);
+    }
+  where
+    nothing : (e : List ℕ) → map ebcdicOf e ≡ [] → e ≡ []
+    nothing [] h = refl
+    nothing (u ∷ e) h = absurd (let z : _≡_ {A = ℕ} 0 1 = cc in omega arith)
+
+pub ucs4-marks : OwnMarks ucs4
+ucs4-marks = record { excludes = λ c f. refl; spells = spelled-so ucs4Layout ucs4-fits }
+
+-- a full sequence of UTF-16 has no surrogate's value
+utf16-alone : (u : ℕ) → utf16 .role u ≡ lead 0 → Dec (u < 0xD800) → Dec (u < 0xDC00) → Dec (0xDFFF < u) → NoSurrogate u
 utf16-alone u e (yes a) b c = inl a
 utf16-alone u e (no a) b (yes c) = inr c
 utf16-alone u e (no a) (yes b) (no c) = absurd (let z : 1 ≡ 0 = lead-injective (sym (high-unit u (omega arith) (omega arith)) ∙ e) in omega arith)
 utf16-alone u e (no a) (no b) (no c) = trailing-lead (sym (low-unit u (omega arith) (omega arith)) ∙ e)
 
-pub utf16-carries : Carries utf16
-utf16-carries c f = go (c .first) (c .rest) f
+utf16-value : (c : Sequence) → Full utf16 c → NoSurrogate (utf16 .value c) × (utf16 .value c ≤ 0x10FFFF)
+utf16-value c f = go (c .first) (c .rest) f
   where
-    go : (u : ℕ) (t : List ℕ) → Full utf16 (sequence u t) → utf16 .excluded (utf16 .value (sequence u t)) ≡ none
+    go : (u : ℕ) (t : List ℕ) → Full utf16 (sequence u t) → NoSurrogate (utf16 .value (sequence u t)) × (utf16 .value (sequence u t) ≤ 0x10FFFF)
     go u [] f =
         let l = in-row utf16Layout utf16-fits u 0 (f .leads) .to in
         let v : utf16 .value (sequence u []) ≡ u = omega arith in
-        rw v (utf16-free u (utf16-alone u (f .leads) (decLt u 0xD800) (decLt u 0xDC00) (decLt 0xDFFF u)) (omega arith))
+        rw v (utf16-alone u (f .leads) (decLt u 0xD800) (decLt u 0xDC00) (decLt 0xDFFF u), omega arith)
     go u (x ∷ []) f =
         let l : utf16 .value (sequence u (x ∷ [])) < 0x110000 = value-limit utf16Layout utf16-fits (sequence u (x ∷ [])) f in
-        utf16-free (utf16 .value (sequence u (x ∷ []))) (inr (omega arith)) (omega arith)
+        (inr (omega arith), omega arith)
     go u (x ∷ (y ∷ t)) f = absurd (omega (arith, in-row utf16Layout utf16-fits u (suc (suc (length t))) (f .leads) .inside))
 
-pub ucs4-carries : Carries ucs4
-ucs4-carries c f = refl
+pub utf16-marks : OwnMarks utf16
+utf16-marks =
+    record {
+      excludes = λ c f. let w = utf16-value c f in rw (free (utf16 .value c) (w .0), le-ltb 0x10FFFF (utf16 .value c) (w .1));
+      spells = spelled-so utf16Layout utf16-fits;
+    }
 
 -- the faults of marks, by form
 abbrev pub Row : Form → ℕ → List ℕ → Type 0
@@ -205,17 +210,24 @@ not-empty : (e : List ℕ) → e ≢ [] → 1 ≤ length e
 not-empty [] n = absurd (n refl)
 not-empty (u ∷ e) n = omega arith
 
-pub fssUtf-row : Row fssUtf 0x100 (2 ∷ 3 ∷ 4 ∷ 5 ∷ [])
+pub fssUtf-row : Row fssUtf 0x100 (2 ∷ 3 ∷ 4 ∷ 5 ∷ 10 ∷ [])
 fssUtf-row u us k b (too-few e n l h) = inl e
 fssUtf-row u us k b (stray e l) = inr (inl e)
 fssUtf-row u us k b (no-role e l) = inr (inr (inl e))
 fssUtf-row u us k b (too-long e n l w s h) = inr (inr (inr (inl e)))
+fssUtf-row u us k b (no-character e n l w s x y) = inr (inr (inr (inr (inl e))))
 
-pub utfEbcdic-row : Row utfEbcdic 0x100 (2 ∷ 3 ∷ 5 ∷ [])
+pub utfEbcdic-row : Row utfEbcdic 0x100 (2 ∷ 3 ∷ 5 ∷ 10 ∷ [])
 utfEbcdic-row u us k b (too-few e n l h) = inl e
 utfEbcdic-row u us k b (stray e l) = inr (inl e)
 utfEbcdic-row u us k b (no-role e l) = absurd (no-role-is .utf-ebcdic u b l)
 utfEbcdic-row u us k b (too-long e n l w s h) = inr (inr (inl e))
+utfEbcdic-row u us k b (no-character e n l w s x y) = inr (inr (inr (inl e)))
+
+first-full : (F : Form) (u : ℕ) (us : List ℕ) (n : ℕ) → F .role u ≡ lead n → length (taken F n us) ≡ n → Full F (firstOf F u us)
+first-full F u us n l w =
+    let k : length (firstOf F u us .rest) ≡ n = ap (λ (o : Role). length (taken F (asked o) us)) l ∙ w in
+    record { leads = l ∙ ap lead (sym k); trail = taken-trailing F (asked (F .role u)) us }
 
 -- a UTF-16 pair has a value of 10000 or more, which is spelled by no fewer units
 utf16-long :
@@ -230,7 +242,7 @@ utf16-long u us n l w s h = go n l w h (in-row utf16Layout utf16-fits u n l .ins
     go zero l w h i = omega (arith, not-empty (utf16 .shortest (utf16 .value (firstOf utf16 u us))) s)
     go (suc zero) l w h i =
         let k : length (firstOf utf16 u us .rest) ≡ 1 = ap (λ (o : Role). length (taken utf16 (asked o) us)) l ∙ w in
-        let f : Full utf16 (firstOf utf16 u us) = record { leads = l ∙ ap lead (sym k); trail = taken-trailing utf16 (asked (utf16 .role u)) us } in
+        let f = first-full utf16 u us 1 l w in
         let z = full-spelling utf16Layout utf16-fits (firstOf utf16 u us) f in
         omega (
           arith,
@@ -244,10 +256,12 @@ utf16-row u us k b (too-few e n l h) = inl e
 utf16-row u us k b (stray e l) = inr (inl e)
 utf16-row u us k b (no-role e l) = absurd (no-role-is .utf-16 u b l)
 utf16-row u us k b (too-long e n l w s h) = absurd (utf16-long u us n l w s h)
+utf16-row u us k b (no-character e n l w s x y) = absurd (⊎-elim (λ h. omega (arith, h)) (λ h. omega (arith, h)) (utf16-value (firstOf utf16 u us) (first-full utf16 u us n l w) .0))
 
-pub ucs4-row : Row ucs4 0x100000000 (4 ∷ [])
+pub ucs4-row : Row ucs4 0x100000000 (4 ∷ 10 ∷ [])
 ucs4-row u us k b (too-few e n l h) = absurd (omega (arith, in-row ucs4Layout ucs4-fits u n l .inside))
 ucs4-row u us k b (stray e l) = absurd (let d = trailing-digit ucs4Layout ucs4-fits u l in omega (arith, d .0, d .1))
 ucs4-row u us k b (no-role e l) = inl e
 ucs4-row u us k b (too-long e n l w s h) =
     absurd (omega (arith, in-row ucs4Layout ucs4-fits u n l .inside, not-empty (ucs4 .shortest (ucs4 .value (firstOf ucs4 u us))) s))
+ucs4-row u us k b (no-character e n l w s x y) = inr (inl e)

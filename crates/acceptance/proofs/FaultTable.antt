@@ -1,5 +1,5 @@
 -- Which faults the marks of each form have, as its one-item reader gives them, with a text for each.
-use Prim.Native.Nat.{ℕ, zero, suc, _<_}
+use Prim.Native.Nat.{ℕ, zero, suc, _≤_, _<_}
 use mathlib.Core.Path.{_≡_, refl, sym, ap, _∙_}
 use mathlib.Core.Logic.{_≢_, inl, inr}
 use mathlib.Core.Bool.{true}
@@ -9,7 +9,7 @@ use native.Mathlib.Decide.{decLt}
 use lib.ListN.{length, getD, drop}
 use lib.Seq.{drop-cons}
 use Rattle.types.specs.declared.Fault.{Fault}
-use Rattle.types.specs.declared.Fault.the-variants.{MissingTrailing, StrayTrailing, InvalidUnit, Overlong}
+use Rattle.types.specs.declared.Fault.the-variants.{MissingTrailing, StrayTrailing, InvalidUnit, Overlong, Surrogate}
 use Rattle.forms.specs.Fault.{numberOf, refusal}
 use Rattle.forms.specs.Form.{Form, encode}
 use Rattle.forms.specs.Forms.{fssUtf, utfEbcdic, utf16, ucs4}
@@ -17,7 +17,7 @@ use Rattle.forms.specs.Conversion.{refused, outcome}
 use Rattle.reader.specs.Step.{cursor, stepAt}
 use Rattle.c_answers.specs.declared.JkItem.{JkItem}
 use Rattle.c_answers.specs.Answer.{jkItem, itemAnswer}
-use Rattle.acceptance.specs.FaultNumbers.{Among, Below, Faults, FaultTable}
+use Rattle.acceptance.specs.FaultNumbers.{Among, NoSurrogate, Below, Faults, FaultTable}
 use Rattle.acceptance.proofs.Numbers.{allIn, all-in}
 use Rattle.acceptance.proofs.FaultNumbers.{values-held, Row, fssUtf-row, utfEbcdic-row, utf16-row, ucs4-row}
 use Rattle.acceptance.proofs.Each.{Known, known}
@@ -34,7 +34,7 @@ pub record Marked (F : Form) (w k : ℕ) : Type 0 where
   pub shown : itemAnswer (stepAt F text (cursor 0)) ≡ jkItem 2 (numberOf fault) 0 0 long
   pub turned : (G : Form) → outcome F G text ≡ refused (refusal fault 0)
 
-fssUtf-marked : (k : ℕ) → Among k (2 ∷ 3 ∷ 4 ∷ 5 ∷ []) → Marked fssUtf 0x100 k
+fssUtf-marked : (k : ℕ) → Among k (2 ∷ 3 ∷ 4 ∷ 5 ∷ 10 ∷ []) → Marked fssUtf 0x100 k
 fssUtf-marked k (inl e) =
     record { text = 0xC2 ∷ []; below = (omega arith, tt); fault = MissingTrailing; number = sym e; long = 1; shown = refl; turned = λ G. refl }
 fssUtf-marked k (inr (inl e)) =
@@ -43,14 +43,34 @@ fssUtf-marked k (inr (inr (inl e))) =
     record { text = 0xFE ∷ []; below = (omega arith, tt); fault = InvalidUnit; number = sym e; long = 1; shown = refl; turned = λ G. refl }
 fssUtf-marked k (inr (inr (inr (inl e)))) =
     record { text = 0xC0 ∷ 0x80 ∷ []; below = (omega arith, (omega arith, tt)); fault = Overlong; number = sym e; long = 2; shown = refl; turned = λ G. refl }
+fssUtf-marked k (inr (inr (inr (inr (inl e))))) =
+    record {
+      text = 0xED ∷ 0xA0 ∷ 0x80 ∷ [];
+      below = (omega arith, (omega arith, (omega arith, tt)));
+      fault = Surrogate;
+      number = sym e;
+      long = 3;
+      shown = refl;
+      turned = λ G. refl;
+    }
 
-utfEbcdic-marked : (k : ℕ) → Among k (2 ∷ 3 ∷ 5 ∷ []) → Marked utfEbcdic 0x100 k
+utfEbcdic-marked : (k : ℕ) → Among k (2 ∷ 3 ∷ 5 ∷ 10 ∷ []) → Marked utfEbcdic 0x100 k
 utfEbcdic-marked k (inl e) =
     record { text = 0x42 ∷ []; below = (omega arith, tt); fault = MissingTrailing; number = sym e; long = 1; shown = refl; turned = λ G. refl }
 utfEbcdic-marked k (inr (inl e)) =
     record { text = 0x80 ∷ []; below = (omega arith, tt); fault = StrayTrailing; number = sym e; long = 1; shown = refl; turned = λ G. refl }
 utfEbcdic-marked k (inr (inr (inl e))) =
     record { text = 0x42 ∷ 0x80 ∷ []; below = (omega arith, (omega arith, tt)); fault = Overlong; number = sym e; long = 2; shown = refl; turned = λ G. refl }
+utfEbcdic-marked k (inr (inr (inr (inl e)))) =
+    record {
+      text = 0xB3 ∷ 0xDD ∷ 0x80 ∷ 0x80 ∷ [];
+      below = (omega arith, (omega arith, (omega arith, (omega arith, tt))));
+      fault = Surrogate;
+      number = sym e;
+      long = 4;
+      shown = refl;
+      turned = λ G. refl;
+    }
 
 utf16-marked : (k : ℕ) → Among k (2 ∷ 3 ∷ []) → Marked utf16 0x10000 k
 utf16-marked k (inl e) =
@@ -58,28 +78,30 @@ utf16-marked k (inl e) =
 utf16-marked k (inr (inl e)) =
     record { text = 0xDC00 ∷ []; below = (omega arith, tt); fault = StrayTrailing; number = sym e; long = 1; shown = refl; turned = λ G. refl }
 
-ucs4-marked : (k : ℕ) → Among k (4 ∷ []) → Marked ucs4 0x100000000 k
+ucs4-marked : (k : ℕ) → Among k (4 ∷ 10 ∷ []) → Marked ucs4 0x100000000 k
 ucs4-marked k (inl e) =
     record { text = 0x80000000 ∷ []; below = (omega arith, tt); fault = InvalidUnit; number = sym e; long = 1; shown = refl; turned = λ G. refl }
+ucs4-marked k (inr (inl e)) =
+    record { text = 0xD800 ∷ []; below = (omega arith, tt); fault = Surrogate; number = sym e; long = 1; shown = refl; turned = λ G. refl }
 
 -- a form as a source, with the faults of its marks
 pub record Source (F : Form) (w : ℕ) (ms : List ℕ) : Type 0 where
   pub known-so : Known F
   pub row : Row F w ms
   pub marked-by : (k : ℕ) → Among k ms → Marked F w k
-  pub small : (v : ℕ) → encode F v ≢ [] → v < 0x80000000
+  pub values : (v : ℕ) → encode F v ≢ [] → (v ≤ 0x7FFFFFFF) × NoSurrogate v
 
-pub fssUtf-source : Source fssUtf 0x100 (2 ∷ 3 ∷ 4 ∷ 5 ∷ [])
-fssUtf-source = record { known-so = known .fss-utf; row = fssUtf-row; marked-by = fssUtf-marked; small = values-held .values .fss-utf }
+pub fssUtf-source : Source fssUtf 0x100 (2 ∷ 3 ∷ 4 ∷ 5 ∷ 10 ∷ [])
+fssUtf-source = record { known-so = known .fss-utf; row = fssUtf-row; marked-by = fssUtf-marked; values = λ v. values-held .fss-utf v .0 }
 
-pub utfEbcdic-source : Source utfEbcdic 0x100 (2 ∷ 3 ∷ 5 ∷ [])
-utfEbcdic-source = record { known-so = known .utf-ebcdic; row = utfEbcdic-row; marked-by = utfEbcdic-marked; small = values-held .values .utf-ebcdic }
+pub utfEbcdic-source : Source utfEbcdic 0x100 (2 ∷ 3 ∷ 5 ∷ 10 ∷ [])
+utfEbcdic-source = record { known-so = known .utf-ebcdic; row = utfEbcdic-row; marked-by = utfEbcdic-marked; values = λ v. values-held .utf-ebcdic v .0 }
 
 pub utf16-source : Source utf16 0x10000 (2 ∷ 3 ∷ [])
-utf16-source = record { known-so = known .utf-16; row = utf16-row; marked-by = utf16-marked; small = values-held .values .utf-16 }
+utf16-source = record { known-so = known .utf-16; row = utf16-row; marked-by = utf16-marked; values = λ v n. let w = values-held .utf-16 v .0 n in (omega (arith, w .0), w .1) }
 
-pub ucs4-source : Source ucs4 0x100000000 (4 ∷ [])
-ucs4-source = record { known-so = known .ucs-4; row = ucs4-row; marked-by = ucs4-marked; small = values-held .values .ucs-4 }
+pub ucs4-source : Source ucs4 0x100000000 (4 ∷ 10 ∷ [])
+ucs4-source = record { known-so = known .ucs-4; row = ucs4-row; marked-by = ucs4-marked; values = λ v. values-held .ucs-4 v .0 }
 
 below-there : (w : ℕ) (s : List ℕ) (q : ℕ) → Below w s → q < length s → getD s q 0 < w
 below-there w [] q b h = absurd (omega arith)

@@ -19,7 +19,7 @@ use Rattle.laws.proofs.Outcomes.{outcomes-differ, refused-same}
 use Rattle.acceptance.specs.FaultNumbers.{Among, markFaults, strictFaults, Refuses, marked, unheld}
 use Rattle.acceptance.specs.Condition2.{FirstFault}
 use Rattle.acceptance.proofs.Numbers.{among, all-in}
-use Rattle.acceptance.proofs.Marking.{Carries, MarkOf, marks-of, mark-of, mark-among}
+use Rattle.acceptance.proofs.Marking.{OwnMarks, MarkOf, marks-of, mark-of, mark-among}
 use Rattle.acceptance.proofs.Standing.{encoding-is, stands, reads-there}
 
 -- what is shown of units that a conversion refuses by k
@@ -108,31 +108,37 @@ module _ (F : Form) (laws : Laws F) (G : Form) where
       h
       (λ e. fault-from n (drop k us) (p + size c) r (omega (arith, length-drop k us)) (rw (sequences-after F us k) at e))
 
+  -- a character that the target does not hold lies above 10FFFF
+  abbrev Beyond : Type 0
+  Beyond = (v : ℕ) → encode F v ≢ [] → encode G v ≡ [] → 0x10FFFF < v
+
   -- what is shown is what the paper says
-  refuses : Carries F → (u : ℕ) (us : List ℕ) (k : ℕ) → Shown F G u us k → Refuses F G u us k
-  refuses own u us k (inl x) = marked (rw (x .2) (marks-of F u us own (x .0) (x .1)))
-  refuses own u us k (inr x) =
+  refuses : OwnMarks F → Beyond → (u : ℕ) (us : List ℕ) (k : ℕ) → Shown F G u us k → Refuses F G u us k
+  refuses own beyond u us k (inl x) = marked (rw (x .2) (marks-of F u us own (x .0) (x .1)))
+  refuses own beyond u us k (inr x) =
       let l = encoding-is F laws u us (x .0) (x .1) in
+      let has : encode F (x .0) ≢ [] = λ n. let b : _≡_ {A = ℕ} 0 1 = cc in omega arith in
       unheld
       (x .3)
       (x .0)
       (record {
-        has = λ n. let b : _≡_ {A = ℕ} 0 1 = cc in omega arith;
+        has = has;
         after = drop (length (firstOf F u us .rest)) us;
         begins = stands F laws u us (x .0) (x .1);
       })
+      (beyond (x .0) has (x .2))
       (x .2)
 
   shown-so : (u : ℕ) (us : List ℕ) (k : ℕ) → Refuses F G u us k → Shown F G u us k
-  shown-so u us k (marked m) = inl (mark-of F u us k m)
-  shown-so u us k (unheld e v o n) = inr (v, reads-there F laws u us v (o .after) (o .has) (o .begins), n, e)
+  shown-so u us k (marked m) = inl (mark-of F u us laws k m)
+  shown-so u us k (unheld e v o h n) = inr (v, reads-there F laws u us v (o .after) (o .has) (o .begins), n, e)
 
   pub refuses-among : (u : ℕ) (us : List ℕ) (k : ℕ) → Refuses F G u us k → Among k strictFaults
   refuses-among u us k (marked m) = all-in k markFaults strictFaults refl (mark-among F u us k m)
-  refuses-among u us k (unheld e v o n) = among k 6 strictFaults refl e
+  refuses-among u us k (unheld e v o h n) = among k 6 strictFaults refl e
 
-  pub first-fault : Carries F → (s : List ℕ) (r : Refusal) → length s ≤ 65536 → convertItems G (items F s) ≡ refused r → FirstFault F G s (r .offset) (numberOf (r .fault))
-  first-fault own s r l h =
+  pub first-fault : OwnMarks F → Beyond → (s : List ℕ) (r : Refusal) → length s ≤ 65536 → convertItems G (items F s) ≡ refused r → FirstFault F G s (r .offset) (numberOf (r .fault))
+  first-fault own beyond s r l h =
       let w = fault-from (suc (length s)) s 0 r (omega arith) h in
       record {
         values = w .values;
@@ -143,7 +149,7 @@ module _ (F : Form) (laws : Laws F) (G : Form) where
         from = w .from;
         to = w .to;
         place = w .place ∙ omega arith;
-        refused = refuses own (w .unit) (w .others) (numberOf (r .fault)) (w .shown);
+        refused = refuses own beyond (w .unit) (w .others) (numberOf (r .fault)) (w .shown);
       }
 
   -- and where good characters stand before a fault, it is given

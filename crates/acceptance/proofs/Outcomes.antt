@@ -2,7 +2,7 @@
 use Prim.Native.Nat.{ℕ, _<_, _≤_}
 use mathlib.Core.Path.{_≡_, refl, sym, ap, _∙_, subst}
 use mathlib.Core.Logic.{_≢_, _↔_, _⊎_, inl, inr}
-use mathlib.Core.List.{List, _∷_}
+use mathlib.Core.List.{List, [], _∷_}
 use native.Mathlib.Omega.{arith}
 use native.Mathlib.Decide.{ℕ-discrete}
 use lib.ListN.{length, length-append}
@@ -10,7 +10,7 @@ use Rattle.types.specs.declared.Fault.{Fault}
 use Rattle.types.specs.declared.Fault.the-variants.{SourceTooLong}
 use Rattle.types.specs.declared.Refusal.{Refusal}
 use Rattle.forms.specs.Fault.{numberOf, limit, refusal}
-use Rattle.forms.specs.Form.{Form, items, encodeAll}
+use Rattle.forms.specs.Form.{Form, items, encode, encodeAll}
 use Rattle.forms.specs.Conversion.{Outcome, converted, refused, answerOf}
 use Rattle.laws.specs.Exactness.{OwnFault, FirstFault as FirstItem}
 use Rattle.laws.proofs.Exactness.{items-refused, other-number}
@@ -63,7 +63,7 @@ module _ (x : Outcome) (r : JkConversion) (e : r ≡ conversionAnswer (answerOf 
   pub number-of : (y : Outcome) → x ≡ y → r ≡ conversionAnswer (answerOf y)
   number-of y h = e ∙ ap (λ (z : Outcome). conversionAnswer (answerOf z)) h
 
-  module _ (F G : Form) (known : Known F) (s : List ℕ)
+  module _ (F G : Form) (known : Known F) (beyond : (v : ℕ) → encode F v ≢ [] → encode G v ≡ [] → 0x10FFFF < v) (s : List ℕ)
       (when-1 : (p : ℕ) → x ≡ refused (refusal SourceTooLong p) ↔ ((limit < length s) × (p ≡ 0)))
       (when-item : (q : Refusal) → OwnFault (q .fault) → x ≡ refused q ↔ ((length s ≤ limit) × FirstItem G (items F s) q))
     where
@@ -74,7 +74,7 @@ module _ (x : Outcome) (r : JkConversion) (e : r ≡ conversionAnswer (answerOf 
           let q = w .refusal-is in
           let y = when-item q (other-number (q .fault) (λ z. a (sym (w .number) ∙ z)) (λ z. b (sym (w .number) ∙ z))) .0 (w .outcome-is) in
           moved (q .offset) (r .offset) (numberOf (q .fault)) (r .fault) (w .place) (w .number)
-          (first-fault F (known .laws) G (known .carries) s q (y .0) (items-refused G (items F s) q .1 (y .1)))
+          (first-fault F (known .laws) G (known .own) beyond s q (y .0) (items-refused G (items F s) q .1 (y .1)))
         where
           moved : (p q k l : ℕ) → p ≡ q → k ≡ l → FirstFault F G s p k → FirstFault F G s q l
           moved p q k l a b f = subst (λ (y : ℕ). FirstFault F G s y l) a (subst (λ (y : ℕ). FirstFault F G s p y) b f)

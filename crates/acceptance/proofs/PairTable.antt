@@ -1,5 +1,5 @@
 -- The numbers by which the conversions of each pair refuse an item.
-use Prim.Native.Nat.{ℕ, _<_}
+use Prim.Native.Nat.{ℕ, _≤_, _<_}
 use mathlib.Core.Path.{_≡_, refl, sym, ap, _∙_}
 use mathlib.Core.Logic.{_≢_, _⊎_, inl, inr}
 use mathlib.Core.Bool.{true}
@@ -16,7 +16,7 @@ use Rattle.laws.specs.TwelvePairs.{Pair}
 use Rattle.laws.proofs.TwelvePairs.{fssUtf-utfEbcdic, fssUtf-utf16, fssUtf-ucs4, utfEbcdic-fssUtf, utfEbcdic-utf16, utfEbcdic-ucs4, utf16-fssUtf, utf16-utfEbcdic, utf16-ucs4, ucs4-fssUtf, ucs4-utfEbcdic, ucs4-utf16}
 use Rattle.c_answers.specs.declared.JkConversion.{JkConversion}
 use Rattle.c_answers.specs.Answer.{conversionAnswer}
-use Rattle.acceptance.specs.FaultNumbers.{Among, strictFaults, Refuses, marked, unheld, Below, Refusals, PairTable}
+use Rattle.acceptance.specs.FaultNumbers.{Among, strictFaults, Refuses, marked, unheld, NoSurrogate, Below, Refusals, PairTable}
 use Rattle.acceptance.specs.Condition2.{FirstFault, Exactly}
 use Rattle.acceptance.proofs.Numbers.{has, among, allIn, all-in}
 use Rattle.acceptance.proofs.FaultNumbers.{values-held, Row}
@@ -46,7 +46,7 @@ module _ (F G : Form) (most : ℕ → ℕ) (pair : Pair F G most) (known-so : Kn
   where
     of-item : (u : ℕ) (us : List ℕ) (k : ℕ) → u < w → Refuses F G u us k → Among k ks
     of-item u us k h (marked m) = all-in k ms ks both (row u us k h m)
-    of-item u us k h (unheld e v o n) = rw e (six v (o .has) n)
+    of-item u us k h (unheld e v o b n) = rw e (six v (o .has) n)
 
     of-first : (s : List ℕ) (q k : ℕ) → Below w s → FirstFault F G s q k → Among k ks
     of-first s q k b f = of-item (f .unit) (f .others) k (below-at w (encodeAll F (f .values)) (f .unit) (f .others) (rw (f .text) at b)) (f .refused)
@@ -90,10 +90,10 @@ by-mark G m = record { text = m .text; below = m .below; fault = m .fault; numbe
 
 -- a target that holds every value: the faults of the source's marks, and no others
 to-any :
-    {F G : Form} {most : ℕ → ℕ} {w : ℕ} {ms : List ℕ} (ks : List ℕ) → Source F w ms → Pair F G most → ((v : ℕ) → v < 0x80000000 → encode G v ≢ [])
+    {F G : Form} {most : ℕ → ℕ} {w : ℕ} {ms : List ℕ} (ks : List ℕ) → Source F w ms → Pair F G most → ((v : ℕ) → (v ≤ 0x7FFFFFFF) × NoSurrogate v → encode G v ≢ [])
     → allIn ms ks ≡ true → allIn ks ms ≡ true → Refusals F G w ks
 to-any {F} {G} {most} {w} {ms} ks a p holds all none-else =
-    refusals F G most p (a .known-so) w ms ks (a .row) all (λ v n e. absurd (holds v (a .small v n) e))
+    refusals F G most p (a .known-so) w ms ks (a .row) all (λ v n e. absurd (holds v (a .values v n) e))
     (λ k m. by-mark G (a .marked-by k (all-in k ks ms none-else m)))
 
 either : (k : ℕ) (ms : List ℕ) → Among k (ms ++ (6 ∷ [])) → Among k ms ⊎ (k ≡ 6)
@@ -144,16 +144,16 @@ ucs4-large = record { text = 0x110000 ∷ []; below = (omega arith, tt); fault =
 pub pair-table : PairTable
 pair-table =
     record {
-      fss-utf-to-utf-ebcdic = to-any _ fssUtf-source fssUtf-utfEbcdic (values-held .utf-ebcdic) refl refl;
+      fss-utf-to-utf-ebcdic = to-any _ fssUtf-source fssUtf-utfEbcdic (λ v. values-held .utf-ebcdic v .1) refl refl;
       fss-utf-to-utf-16 = to-utf16 _ fssUtf-source fssUtf-utf16 fssUtf-large refl refl refl;
-      fss-utf-to-ucs-4 = to-any _ fssUtf-source fssUtf-ucs4 (values-held .ucs-4) refl refl;
-      utf-ebcdic-to-fss-utf = to-any _ utfEbcdic-source utfEbcdic-fssUtf (values-held .fss-utf) refl refl;
+      fss-utf-to-ucs-4 = to-any _ fssUtf-source fssUtf-ucs4 (λ v. values-held .ucs-4 v .1) refl refl;
+      utf-ebcdic-to-fss-utf = to-any _ utfEbcdic-source utfEbcdic-fssUtf (λ v. values-held .fss-utf v .1) refl refl;
       utf-ebcdic-to-utf-16 = to-utf16 _ utfEbcdic-source utfEbcdic-utf16 utfEbcdic-large refl refl refl;
-      utf-ebcdic-to-ucs-4 = to-any _ utfEbcdic-source utfEbcdic-ucs4 (values-held .ucs-4) refl refl;
-      utf-16-to-fss-utf = to-any _ utf16-source utf16-fssUtf (values-held .fss-utf) refl refl;
-      utf-16-to-utf-ebcdic = to-any _ utf16-source utf16-utfEbcdic (values-held .utf-ebcdic) refl refl;
-      utf-16-to-ucs-4 = to-any _ utf16-source utf16-ucs4 (values-held .ucs-4) refl refl;
-      ucs-4-to-fss-utf = to-any _ ucs4-source ucs4-fssUtf (values-held .fss-utf) refl refl;
-      ucs-4-to-utf-ebcdic = to-any _ ucs4-source ucs4-utfEbcdic (values-held .utf-ebcdic) refl refl;
+      utf-ebcdic-to-ucs-4 = to-any _ utfEbcdic-source utfEbcdic-ucs4 (λ v. values-held .ucs-4 v .1) refl refl;
+      utf-16-to-fss-utf = to-any _ utf16-source utf16-fssUtf (λ v. values-held .fss-utf v .1) refl refl;
+      utf-16-to-utf-ebcdic = to-any _ utf16-source utf16-utfEbcdic (λ v. values-held .utf-ebcdic v .1) refl refl;
+      utf-16-to-ucs-4 = to-any _ utf16-source utf16-ucs4 (λ v. values-held .ucs-4 v .1) refl refl;
+      ucs-4-to-fss-utf = to-any _ ucs4-source ucs4-fssUtf (λ v. values-held .fss-utf v .1) refl refl;
+      ucs-4-to-utf-ebcdic = to-any _ ucs4-source ucs4-utfEbcdic (λ v. values-held .utf-ebcdic v .1) refl refl;
       ucs-4-to-utf-16 = to-utf16 _ ucs4-source ucs4-utf16 ucs4-large refl refl refl;
     }

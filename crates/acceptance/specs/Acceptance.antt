@@ -25,7 +25,7 @@ pub record Acceptance : Type 0 where
   pub good-characters : EachForm GoodCharacters
   pub no-neighbour-lost : DecodingCalls Condition3
   pub middle-as-alone : DecodingCalls MiddleAlone
-  -- document 01, and request 107: fault numbers, starts, what acceptance proves
+  -- document 01, and requests 104 and 107: fault numbers, starts, what acceptance proves
   pub no-role : NoRole
   pub held : Held
   pub byte-forms : ByteForms

@@ -1,4 +1,4 @@
--- Document 01, "Fault numbers", as request 107 leaves them: which numbers a call gives, which an item has, and when. 0 stands for no fault.
+-- Document 01, "Fault numbers", as requests 104 and 107 leave them: which numbers a call gives, which an item has, and when. 0 stands for no fault.
 use Prim.Native.Nat.{ℕ, suc, _^_, _≤_, _<_}
 use mathlib.Core.Path.{_≡_}
 use mathlib.Core.Logic.{_≢_, _⊎_, _↔_}
@@ -12,7 +12,6 @@ use Rattle.c_answers.specs.declared.JkConversion.{JkConversion}
 use Rattle.c_answers.specs.declared.JkItem.{JkItem}
 use Rattle.c_answers.specs.Answer.{itemAnswer}
 use Rattle.c_answers.specs.Promises.{ConvertsInC, MeasuresInC}
-use Rattle.acceptance.specs.Calls.{EachForm}
 
 abbrev pub Among : ℕ → List ℕ → Type 0
 Among k [] = ⊥
@@ -20,11 +19,11 @@ Among k (n ∷ ns) = (k ≡ n) ⊎ Among k ns
 
 -- the faults of marks
 abbrev pub markFaults : List ℕ
-markFaults = 2 ∷ 3 ∷ 4 ∷ 5 ∷ []
+markFaults = 2 ∷ 3 ∷ 4 ∷ 5 ∷ 10 ∷ []
 
--- "then 2, 3, 4, 5 ... or 6": those by which a strict conversion refuses an item
+-- "then 2, 3, 4, 5 ... or 6", with 10 "tried after 5": those by which a strict conversion refuses an item
 abbrev pub strictFaults : List ℕ
-strictFaults = 2 ∷ 3 ∷ 4 ∷ 5 ∷ 6 ∷ []
+strictFaults = 2 ∷ 3 ∷ 4 ∷ 5 ∷ 10 ∷ 6 ∷ []
 
 -- the numbers that a conversion gives
 abbrev pub conversionFaults : List ℕ
@@ -50,12 +49,17 @@ pub data Marks (F : Form) (u : ℕ) (us : List ℕ) (k : ℕ) : Type 0 where
   too-long :
       k ≡ 5 → (n : ℕ) → F .role u ≡ lead n → length (taken F n us) ≡ n
       → F .shortest (F .value (firstOf F u us)) ≢ [] → length (F .shortest (F .value (firstOf F u us))) < suc n → Marks F u us k
+  -- request 104, "such a value ... is a fault", "tried after 5": the lead has all that it asks, the value needs so many, and it is a surrogate
+  no-character :
+      k ≡ 10 → (n : ℕ) → F .role u ≡ lead n → length (taken F n us) ≡ n → suc n ≤ length (F .shortest (F .value (firstOf F u us)))
+      → 0xD800 ≤ F .value (firstOf F u us) → F .value (firstOf F u us) ≤ 0xDFFF → Marks F u us k
 
 -- when a conversion to G refuses it by k
 pub data Refuses (F G : Form) (u : ℕ) (us : List ℕ) (k : ℕ) : Type 0 where
   marked : Marks F u us k → Refuses F G u us k
-  -- "the target can't hold the value": a good character that has no legal encoding there; see `Held`
-  unheld : k ≡ 6 → (v : ℕ) → OccursAt F (u ∷ us) 0 v → encode G v ≡ [] → Refuses F G u us k
+  -- "the target can't hold the value", and "fault 6 is left with values above 10FFFF": a good character of such a value that has no legal
+  -- encoding there; see `Held`
+  unheld : k ≡ 6 → (v : ℕ) → OccursAt F (u ∷ us) 0 v → 0x10FFFF < v → encode G v ≡ [] → Refuses F G u us k
 
 -- 4, by form: "FSS-UTF FE or FF; UCS-4 unit of 80000000 or more"
 pub record NoRole : Type 0 where
@@ -64,14 +68,15 @@ pub record NoRole : Type 0 where
   pub utf-16 : (u : ℕ) → u < 0x10000 → utf16 .role u ≢ invalid
   pub ucs-4 : (u : ℕ) → u < 0x100000000 → (ucs4 .role u ≡ invalid) ↔ (0x80000000 ≤ u)
 
--- 6, by target: "UTF-16 for D800-DFFF or above 10FFFF"
+abbrev pub NoSurrogate : ℕ → Type 0
+NoSurrogate v = (v < 0xD800) ⊎ (0xDFFF < v)
+
+-- the values that have a legal encoding: "from 0 to 7FFFFFFF", "without these values" (request 104), and in UTF-16 up to 10FFFF
 pub record Held : Type 0 where
-  -- "Values run from 0 to 7FFFFFFF."
-  pub values : EachForm (λ F. (v : ℕ) → encode F v ≢ [] → v < 0x80000000)
-  pub fss-utf : (v : ℕ) → v < 0x80000000 → encode fssUtf v ≢ []
-  pub utf-ebcdic : (v : ℕ) → v < 0x80000000 → encode utfEbcdic v ≢ []
-  pub utf-16 : (v : ℕ) → v < 0x80000000 → (encode utf16 v ≡ []) ↔ (((0xD800 ≤ v) × (v ≤ 0xDFFF)) ⊎ (0x10FFFF < v))
-  pub ucs-4 : (v : ℕ) → v < 0x80000000 → encode ucs4 v ≢ []
+  pub fss-utf : (v : ℕ) → (encode fssUtf v ≢ []) ↔ ((v ≤ 0x7FFFFFFF) × NoSurrogate v)
+  pub utf-ebcdic : (v : ℕ) → (encode utfEbcdic v ≢ []) ↔ ((v ≤ 0x7FFFFFFF) × NoSurrogate v)
+  pub utf-16 : (v : ℕ) → (encode utf16 v ≢ []) ↔ ((v ≤ 0x10FFFF) × NoSurrogate v)
+  pub ucs-4 : (v : ℕ) → (encode ucs4 v ≢ []) ↔ ((v ≤ 0x7FFFFFFF) × NoSurrogate v)
 
 -- a full sequence of F has so many bytes and carries so many free bits at most; one carries them all
 pub record FreeBits (F : Form) (bytes bits : ℕ) : Type 0 where
@@ -98,10 +103,10 @@ pub record Faults (F : Form) (w : ℕ) (ks : List ℕ) : Type 0 where
       (k : ℕ) → Among k ks → (s : List ℕ) × Below w s × ((r : JkItem) → r ≡ itemAnswer (stepAt F s (cursor 0)) → (r .kind ≡ 2) × (r .fault ≡ k))
 
 pub record FaultTable : Type 0 where
-  pub fss-utf : Faults fssUtf 0x100 (2 ∷ 3 ∷ 4 ∷ 5 ∷ [])
-  pub utf-ebcdic : Faults utfEbcdic 0x100 (2 ∷ 3 ∷ 5 ∷ [])
+  pub fss-utf : Faults fssUtf 0x100 (2 ∷ 3 ∷ 4 ∷ 5 ∷ 10 ∷ [])
+  pub utf-ebcdic : Faults utfEbcdic 0x100 (2 ∷ 3 ∷ 5 ∷ 10 ∷ [])
   pub utf-16 : Faults utf16 0x10000 (2 ∷ 3 ∷ [])
-  pub ucs-4 : Faults ucs4 0x100000000 (4 ∷ [])
+  pub ucs-4 : Faults ucs4 0x100000000 (4 ∷ 10 ∷ [])
 
 -- a conversion from F to G and its measure refuse an item by these numbers and no others, and by each of them for some text
 pub record Refusals (F G : Form) (w : ℕ) (ks : List ℕ) : Type 0 where
@@ -113,15 +118,15 @@ pub record Refusals (F G : Form) (w : ℕ) (ks : List ℕ) : Type 0 where
       × ((r : JkConversion) → MeasuresInC F G s r → r .fault ≡ k)
 
 pub record PairTable : Type 0 where
-  pub fss-utf-to-utf-ebcdic : Refusals fssUtf utfEbcdic 0x100 (2 ∷ 3 ∷ 4 ∷ 5 ∷ [])
-  pub fss-utf-to-utf-16 : Refusals fssUtf utf16 0x100 (2 ∷ 3 ∷ 4 ∷ 5 ∷ 6 ∷ [])
-  pub fss-utf-to-ucs-4 : Refusals fssUtf ucs4 0x100 (2 ∷ 3 ∷ 4 ∷ 5 ∷ [])
-  pub utf-ebcdic-to-fss-utf : Refusals utfEbcdic fssUtf 0x100 (2 ∷ 3 ∷ 5 ∷ [])
-  pub utf-ebcdic-to-utf-16 : Refusals utfEbcdic utf16 0x100 (2 ∷ 3 ∷ 5 ∷ 6 ∷ [])
-  pub utf-ebcdic-to-ucs-4 : Refusals utfEbcdic ucs4 0x100 (2 ∷ 3 ∷ 5 ∷ [])
+  pub fss-utf-to-utf-ebcdic : Refusals fssUtf utfEbcdic 0x100 (2 ∷ 3 ∷ 4 ∷ 5 ∷ 10 ∷ [])
+  pub fss-utf-to-utf-16 : Refusals fssUtf utf16 0x100 (2 ∷ 3 ∷ 4 ∷ 5 ∷ 10 ∷ 6 ∷ [])
+  pub fss-utf-to-ucs-4 : Refusals fssUtf ucs4 0x100 (2 ∷ 3 ∷ 4 ∷ 5 ∷ 10 ∷ [])
+  pub utf-ebcdic-to-fss-utf : Refusals utfEbcdic fssUtf 0x100 (2 ∷ 3 ∷ 5 ∷ 10 ∷ [])
+  pub utf-ebcdic-to-utf-16 : Refusals utfEbcdic utf16 0x100 (2 ∷ 3 ∷ 5 ∷ 10 ∷ 6 ∷ [])
+  pub utf-ebcdic-to-ucs-4 : Refusals utfEbcdic ucs4 0x100 (2 ∷ 3 ∷ 5 ∷ 10 ∷ [])
   pub utf-16-to-fss-utf : Refusals utf16 fssUtf 0x10000 (2 ∷ 3 ∷ [])
   pub utf-16-to-utf-ebcdic : Refusals utf16 utfEbcdic 0x10000 (2 ∷ 3 ∷ [])
   pub utf-16-to-ucs-4 : Refusals utf16 ucs4 0x10000 (2 ∷ 3 ∷ [])
-  pub ucs-4-to-fss-utf : Refusals ucs4 fssUtf 0x100000000 (4 ∷ [])
-  pub ucs-4-to-utf-ebcdic : Refusals ucs4 utfEbcdic 0x100000000 (4 ∷ [])
-  pub ucs-4-to-utf-16 : Refusals ucs4 utf16 0x100000000 (4 ∷ 6 ∷ [])
+  pub ucs-4-to-fss-utf : Refusals ucs4 fssUtf 0x100000000 (4 ∷ 10 ∷ [])
+  pub ucs-4-to-utf-ebcdic : Refusals ucs4 utfEbcdic 0x100000000 (4 ∷ 10 ∷ [])
+  pub ucs-4-to-utf-16 : Refusals ucs4 utf16 0x100000000 (4 ∷ 10 ∷ 6 ∷ [])

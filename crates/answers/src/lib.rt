@@ -24,6 +24,7 @@ pub fn number(fault: Fault) -> u32
         Fault::Unrepresentable => 6,
         Fault::BufferTooShort => 7,
         Fault::OffsetOutOfRange => 8,
+        Fault::Surrogate => 9,
     };
     count + (count + 24) / 32
 }

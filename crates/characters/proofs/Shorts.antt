@@ -2,15 +2,17 @@
 use Prim.Native.Nat.{ℕ, _+_, _*_, _-_, _≤_, _<_}
 use mathlib.Core.Path.{_≡_, refl}
 use mathlib.Core.List.{List, [], _∷_}
+use mathlib.Core.Option.{none}
 use native.Mathlib.Omega.{arith}
 use lib.ListN.{length, getD, drop}
 use lib.Bits.{bitOr, or-add-and, and-le-l, and-le-r}
 use Rattle.forms.specs.Form.{Form}
-use Rattle.forms.specs.Forms.{byteLayout, fssUtf, utf16}
+use Rattle.forms.specs.Forms.{noCharacter, byteLayout, fssUtf, utf16}
 use Rattle.laws.proofs.ReadUnits.{behind-one, behind-two, behind-three, read-units}
 use Rattle.items.proofs.WholeUnits.{utf16-below, utf16-above, utf16-pair}
 use Rattle.tables.specs.declared.ByteForm.the-variants.{FssUtf}
-use Rattle.tables.proofs.ByteLayouts.{passes, not-excluded}
+use Rattle.laws.proofs.Carried.{free-below, free-above}
+use Rattle.tables.proofs.ByteLayouts.{passes}
 use Rattle.characters.specs.Short.{ShortAt, LeadAt, FreeBits}
 
 pub or-left : (a b : ℕ) → a ≤ bitOr a b
@@ -27,8 +29,8 @@ module _ {s : List ℕ} {at : ℕ} where
   one-byte {v} h l e =
       record {
         character =
-            λ _. read-units (byteLayout 6 6) (passes FssUtf) (not-excluded FssUtf) s at [] (drop (at + 1) s) v h refl tt (omega arith) (omega arith) (omega arith)
-            (omega arith) (omega arith);
+            λ _. read-units (byteLayout 6 6) (passes FssUtf) s at [] (drop (at + 1) s) v h refl tt (omega arith) (omega arith) (omega arith)
+            (omega arith) (omega arith) (free-below v (omega arith));
       }
 
   pub two-bytes :
@@ -37,22 +39,22 @@ module _ {s : List ℕ} {at : ℕ} where
       let i = x .trails o in
       record {
         character =
-            λ _. read-units (byteLayout 6 6) (passes FssUtf) (not-excluded FssUtf) s at (getD s (at + 1) 0 ∷ []) (drop (at + 2) s) v (omega arith)
-            (behind-one s at (h .inside)) ((omega arith, omega arith), tt) (omega arith) (h .from) (h .to) (omega arith) m;
+            λ _. read-units (byteLayout 6 6) (passes FssUtf) s at (getD s (at + 1) 0 ∷ []) (drop (at + 2) s) v (omega arith)
+            (behind-one s at (h .inside)) ((omega arith, omega arith), tt) (omega arith) (h .from) (h .to) (omega arith) m (free-below v (omega (arith, h .to)));
       }
 
   pub three-bytes :
       {l a b v : ℕ} → LeadAt s at 2 0xE0 0xEF → l ≡ getD s at 0 - 0xE0 → FreeBits (getD s (at + 1) 0) a → FreeBits (getD s (at + 2) 0) b
-      → bitOr a b < 64 → v ≡ (l * 64 + a) * 64 + b → 0x800 ≤ v → ShortAt fssUtf s at v 3
-  three-bytes {l} {a} {b} {v} h e x y o w m =
+      → bitOr a b < 64 → v ≡ (l * 64 + a) * 64 + b → 0x800 ≤ v → noCharacter v ≡ none → ShortAt fssUtf s at v 3
+  three-bytes {l} {a} {b} {v} h e x y o w m free =
       let k = or-left a b in
       let u = or-right a b in
       let i = x .trails (omega arith) in
       let j = y .trails (omega arith) in
       record {
         character =
-            λ _. read-units (byteLayout 6 6) (passes FssUtf) (not-excluded FssUtf) s at (getD s (at + 1) 0 ∷ getD s (at + 2) 0 ∷ []) (drop (at + 3) s) v (omega arith)
-            (behind-two s at (h .inside)) ((omega arith, omega arith), ((omega arith, omega arith), tt)) (omega arith) (h .from) (h .to) (omega arith) m;
+            λ _. read-units (byteLayout 6 6) (passes FssUtf) s at (getD s (at + 1) 0 ∷ getD s (at + 2) 0 ∷ []) (drop (at + 3) s) v (omega arith)
+            (behind-two s at (h .inside)) ((omega arith, omega arith), ((omega arith, omega arith), tt)) (omega arith) (h .from) (h .to) (omega arith) m free;
       }
 
   pub four-bytes :
@@ -68,9 +70,9 @@ module _ {s : List ℕ} {at : ℕ} where
       let q = z .trails (omega arith) in
       record {
         character =
-            λ _. read-units (byteLayout 6 6) (passes FssUtf) (not-excluded FssUtf) s at (getD s (at + 1) 0 ∷ getD s (at + 2) 0 ∷ getD s (at + 3) 0 ∷ []) (drop (at + 4) s) v
+            λ _. read-units (byteLayout 6 6) (passes FssUtf) s at (getD s (at + 1) 0 ∷ getD s (at + 2) 0 ∷ getD s (at + 3) 0 ∷ []) (drop (at + 4) s) v
             (omega arith) (behind-three s at (h .inside)) ((omega arith, omega arith), ((omega arith, omega arith), ((omega arith, omega arith), tt))) (omega arith) (h .from) (h .to)
-            (omega arith) m;
+            (omega arith) m (free-above v (omega arith));
       }
 
   pub unit-below : {v : ℕ} → at < length s → v ≡ getD s at 0 → v < 0xD800 → ShortAt utf16 s at v 1

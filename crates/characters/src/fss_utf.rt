@@ -59,6 +59,12 @@ fn three_at(text: &[u8], at: usize) -> Short
             length: 0,
         };
     }
+    if items::is_surrogate(value) {
+        return Short {
+            value: 0,
+            length: 0,
+        };
+    }
     Short { value, length: 3 }
 }
 

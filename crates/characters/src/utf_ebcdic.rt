@@ -89,6 +89,12 @@ fn four_at(table: &[u8; 256], text: &[u8], at: usize, lead: u8) -> Short
             length: 0,
         };
     }
+    if items::is_surrogate(value) {
+        return Short {
+            value: 0,
+            length: 0,
+        };
+    }
     Short { value, length: 4 }
 }
 

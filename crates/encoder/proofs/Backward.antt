@@ -1,6 +1,7 @@
 -- A sequence written from its last unit to its first: what the loop keeps, how a turn changes it, and what it comes to.
 use Prim.Native.Nat.{ℕ, zero, suc, _+_, _-_, _*_, _/_, _%_, _^_, _≤_, _<_}
 use mathlib.Core.Path.{_≡_, refl, sym, ap, _∙_, subst}
+use mathlib.Core.Logic.{_≢_}
 use mathlib.Core.List.{List, [], _∷_, _++_, map, append-assoc, append-nil, map-append}
 use native.Mathlib.Omega.{arith}
 use native.Mathlib.Nat.{pow-suc, pow-zero, mul-one, mul-assoc, mul-le-mul-right, div-lt-iff-lt-mul, div-one}
@@ -112,7 +113,7 @@ row-bound v a b o P z h l =
     let m : (b + 1 - a) * P ≤ (0x100 - a) * P = mul-le-mul-right P (omega arith) in
     omega arith
 
-pub spelled-as : (f : ByteForm) (v m R low : ℕ) → v < 0x80000000 → length (encode (byteForm f) v) ≡ m + 1 → R ≡ layoutOf f .radix → low ≡ layoutOf f .low → Spelled f v m R low
+pub spelled-as : (f : ByteForm) (v m R low : ℕ) → encode (byteForm f) v ≢ [] → length (encode (byteForm f) v) ≡ m + 1 → R ≡ layoutOf f .radix → low ≡ layoutOf f .low → Spelled f v m R low
 spelled-as f v m R low s e p q =
     let L = layoutOf f in
     let z = encode-spelled f v s m (e ∙ add-one m) in

@@ -11,8 +11,8 @@ use Rattle.laws.proofs.FourForms.{fssUtf-laws, utfEbcdic-laws, utf16-laws, ucs4
 use Rattle.laws.proofs.Progress.{CharacterAt}
 use Rattle.laws.proofs.Runs.{Counted, counted-one, counted-join}
 use Rattle.tables.specs.declared.ByteForm.the-variants as form
-use Rattle.tables.proofs.ByteLayouts.{encode-length}
-use Rattle.laws.proofs.UnitEncodings.{ucs4-encoding, below-surrogates}
+use Rattle.tables.proofs.ByteLayouts.{carries-below, encode-length}
+use Rattle.laws.proofs.UnitEncodings.{ucs4-below, below-surrogates}
 use Rattle.encoder.specs.Target.{targetForm}
 use Rattle.encoder.specs.declared.Target.{Target}
 use Rattle.encoder.specs.declared.Target.the-variants.{FssUtf, UtfEbcdic, Utf16, Ucs4}
@@ -34,10 +34,10 @@ encode-seven t v = omega (arith, encode-longest (targetForm t) (target-laws t) v
 
 -- an ASCII character has one unit in every form
 pub ascii-one : (t : Target) (v : ℕ) → v < 0x80 → 1 ≡ length (encode (targetForm t) v)
-ascii-one FssUtf v h = sym (encode-length form.FssUtf v (omega arith) 0 (omega arith) (omega arith) (omega arith))
-ascii-one UtfEbcdic v h = sym (encode-length form.UtfEbcdic v (omega arith) 0 (omega arith) (omega arith) (omega arith))
+ascii-one FssUtf v h = sym (encode-length form.FssUtf v (carries-below form.FssUtf v (omega arith)) 0 (omega arith) (omega arith) (omega arith))
+ascii-one UtfEbcdic v h = sym (encode-length form.UtfEbcdic v (carries-below form.UtfEbcdic v (omega arith)) 0 (omega arith) (omega arith) (omega arith))
 ascii-one Utf16 v h = sym (ap length (below-surrogates v (omega arith)))
-ascii-one Ucs4 v h = sym (ap length (ucs4-encoding v (omega arith)))
+ascii-one Ucs4 v h = sym (ap length (ucs4-below v (omega arith)))
 
 module _ (t : Target) {F : Form} {s : List ℕ} where
   pub counted-ascii : {p v : ℕ} → CharacterAt F s p v (span p 1) → v < 0x80 → Counted F (targetForm t) s p 1 1

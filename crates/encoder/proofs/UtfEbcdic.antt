@@ -1,6 +1,7 @@
 -- The encodings of UTF-EBCDIC of one to four bytes, written out.
 use Prim.Native.Nat.{ℕ, _+_, _-_, _/_, _%_, _≤_, _<_}
 use mathlib.Core.Path.{_≡_, ap, _∙_}
+use mathlib.Core.Logic.{_≢_}
 use mathlib.Core.List.{List, [], _∷_, map}
 use native.Mathlib.Omega.{arith}
 use borrow.Author.Tests.{le-ltb, lt-ltb}
@@ -9,7 +10,7 @@ use Rattle.forms.specs.Layout.{formOf}
 use Rattle.forms.specs.Exchange.{ebcdicOf}
 use Rattle.forms.specs.Forms.{byteLayout, utfEbcdic}
 use Rattle.tables.specs.declared.ByteForm.the-variants.{UtfEbcdic}
-use Rattle.tables.proofs.ByteLayouts.{encode-plain}
+use Rattle.tables.proofs.ByteLayouts.{carries-below, encode-plain}
 
 -- lists are the same by their elements
 pub same-one : {a x : ℕ} → a ≡ x → _≡_ {A = List ℕ} (a ∷ []) (x ∷ [])
@@ -41,17 +42,17 @@ module _ (v : ℕ) where
       (same-four (omega arith) (omega arith) (omega arith) (omega arith))
 
   pub one-byte : v < 0xA0 → encode utfEbcdic v ≡ ebcdicOf v ∷ []
-  one-byte h = encode-plain UtfEbcdic v (omega arith) ∙ ap (map ebcdicOf) (one-i8 h)
+  one-byte h = encode-plain UtfEbcdic v (carries-below UtfEbcdic v (omega arith)) ∙ ap (map ebcdicOf) (one-i8 h)
 
   pub two-bytes : 0xA0 ≤ v → v < 0x400 → encode utfEbcdic v ≡ ebcdicOf (0xC0 + v / 32) ∷ ebcdicOf (0xA0 + v % 32) ∷ []
-  two-bytes h k = encode-plain UtfEbcdic v (omega arith) ∙ ap (map ebcdicOf) (two-i8 h k)
+  two-bytes h k = encode-plain UtfEbcdic v (carries-below UtfEbcdic v (omega arith)) ∙ ap (map ebcdicOf) (two-i8 h k)
 
   pub three-bytes :
       0x400 ≤ v → v < 0x4000
       → encode utfEbcdic v ≡ ebcdicOf (0xE0 + v / 1024) ∷ ebcdicOf (0xA0 + v / 32 % 32) ∷ ebcdicOf (0xA0 + v % 32) ∷ []
-  three-bytes h k = encode-plain UtfEbcdic v (omega arith) ∙ ap (map ebcdicOf) (three-i8 h k)
+  three-bytes h k = encode-plain UtfEbcdic v (carries-below UtfEbcdic v (omega arith)) ∙ ap (map ebcdicOf) (three-i8 h k)
 
   pub four-bytes :
-      0x4000 ≤ v → v < 0x40000
+      encode utfEbcdic v ≢ [] → 0x4000 ≤ v → v < 0x40000
       → encode utfEbcdic v ≡ ebcdicOf (0xF0 + v / 32768) ∷ ebcdicOf (0xA0 + v / 1024 % 32) ∷ ebcdicOf (0xA0 + v / 32 % 32) ∷ ebcdicOf (0xA0 + v % 32) ∷ []
-  four-bytes h k = encode-plain UtfEbcdic v (omega arith) ∙ ap (map ebcdicOf) (four-i8 h k)
+  four-bytes n h k = encode-plain UtfEbcdic v n ∙ ap (map ebcdicOf) (four-i8 h k)

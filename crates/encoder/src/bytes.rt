@@ -1,7 +1,9 @@
 // The legal encoding of one value in FSS-UTF or UTF-EBCDIC: its length, and the bytes written from the last to the first.
 use tables::ByteForm;
 ghost use mathlib.Core.Path.{_≡_};
-ghost use Prim.Native.Nat.{_+_, _<_, _≤_};
+ghost use mathlib.Core.Logic.{_≢_};
+ghost use mathlib.Core.List.{[]};
+ghost use Prim.Native.Nat.{_+_, _≤_};
 ghost use lib.ListN.{length};
 ghost use Rattle.forms.specs.Form.{encode};
 ghost use Rattle.forms.specs.Buffer.{withUnits};
@@ -9,7 +11,7 @@ ghost use Rattle.tables.specs.ByteForms.{byteForm};
 
 // The trailing bytes of the value's encoding: as many as the first length has that the value fits.
 fn trailing(form: ByteForm, value: u32) -> usize
-    requires { ⌜ value < 0x80000000 ⌝ }
+    requires { ⌜ (encode (byteForm form) value ≢ []) ⌝ }
     ensures { λ r. ⌜ length (encode (byteForm form) value) ≡ r + 1 ⌝ }
 {
     let mut count: usize = 0;
@@ -21,7 +23,7 @@ fn trailing(form: ByteForm, value: u32) -> usize
 
 // The same without a loop, for those who ask it of each character: a constant table costs nothing where the compiler knows the index.
 pub fn encoded_length(form: ByteForm, value: u32) -> usize
-    requires { ⌜ value < 0x80000000 ⌝ }
+    requires { ⌜ (encode (byteForm form) value ≢ []) ⌝ }
     ensures { λ r. ⌜ r ≡ length (encode (byteForm form) value) ⌝ }
 {
     if value < tables::lowest(form, 1) {
@@ -47,7 +49,7 @@ pub fn encoded_length(form: ByteForm, value: u32) -> usize
 
 // Writes the encoding from an offset on, its last byte first, and answers the offset behind it.
 pub fn write(form: ByteForm, value: u32, dst: &mut [u8], at: usize) -> usize
-    requires { ⌜ (value < 0x80000000) × (at + length (encode (byteForm form) value) ≤ length (now dst)) ⌝ }
+    requires { ⌜ (encode (byteForm form) value ≢ []) × (at + length (encode (byteForm form) value) ≤ length (now dst)) ⌝ }
     ensures { λ r. ⌜ (r ≡ at + length (encode (byteForm form) value)) × (now (dst .exit) ≡ withUnits (now (dst .entry)) at (encode (byteForm form) value)) ⌝ }
 {
     let count = trailing(form, value);

@@ -1,6 +1,8 @@
 // One value in FSS-UTF, by straight code where it has at most four bytes: what `bytes` promises of it.
 use tables::ByteForm;
 ghost use mathlib.Core.Path.{_≡_};
+ghost use mathlib.Core.Logic.{_≢_};
+ghost use mathlib.Core.List.{[]};
 ghost use Prim.Native.Nat.{_+_, _<_, _≤_};
 ghost use lib.ListN.{length};
 ghost use Rattle.forms.specs.Form.{encode};
@@ -26,7 +28,7 @@ pub fn two(value: u32, dst: &mut [u8], at: usize) -> usize
 }
 
 pub fn three(value: u32, dst: &mut [u8], at: usize) -> usize
-    requires { ⌜ (0x800 ≤ value) × (value < 0x10000) × (at + length (encode fssUtf value) ≤ length (now dst)) ⌝ }
+    requires { ⌜ (encode fssUtf value ≢ []) × (0x800 ≤ value) × (value < 0x10000) × (at + length (encode fssUtf value) ≤ length (now dst)) ⌝ }
     ensures { λ r. ⌜ (r ≡ at + length (encode fssUtf value)) × (now (dst .exit) ≡ withUnits (now (dst .entry)) at (encode fssUtf value)) ⌝ }
 {
     dst[at] = (0xE0 + value / 4096) as u8;
@@ -48,7 +50,7 @@ pub fn four(value: u32, dst: &mut [u8], at: usize) -> usize
 
 // What `crate::bytes::write` does for FSS-UTF.
 pub fn write(value: u32, dst: &mut [u8], at: usize) -> usize
-    requires { ⌜ (value < 0x80000000) × (at + length (encode fssUtf value) ≤ length (now dst)) ⌝ }
+    requires { ⌜ (encode fssUtf value ≢ []) × (at + length (encode fssUtf value) ≤ length (now dst)) ⌝ }
     ensures { λ r. ⌜ (r ≡ at + length (encode fssUtf value)) × (now (dst .exit) ≡ withUnits (now (dst .entry)) at (encode fssUtf value)) ⌝ }
 {
     if value < 0x80 {

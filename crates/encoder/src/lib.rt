@@ -1,6 +1,6 @@
 // Values written in a target form. Here: how many code units a value has. `bytes`, `utf16` and `ucs4` write one value, by the width of the
 // code units; `fss_utf` and `utf_ebcdic` the same by straight code; `fss_utf_blocks` and `utf16_blocks` many at once, within
-// `value_bounds`. These functions ask that the value lies below 80000000 and that the room suffices: the calls of `conversion` ask nothing.
+// `value_bounds`. These functions ask that the value is a character's and that the room suffices: the calls of `conversion` ask nothing.
 pub mod bytes;
 pub mod fss_utf;
 pub mod fss_utf_blocks;
@@ -12,9 +12,11 @@ pub mod value_bounds;
 
 use tables::ByteForm;
 ghost use mathlib.Core.Path.{_≡_};
-ghost use Prim.Native.Nat.{_<_};
+ghost use mathlib.Core.Logic.{_≢_};
+ghost use mathlib.Core.List.{[]};
 ghost use lib.ListN.{length};
 ghost use Rattle.forms.specs.Form.{encode};
+ghost use Rattle.forms.specs.Forms.{ucs4};
 ghost use Rattle.tables.specs.ByteForms.{byteForm};
 ghost use Rattle.encoder.specs.Target.{targetForm};
 
@@ -36,9 +38,9 @@ pub fn byte_target(form: ByteForm) -> Target
     }
 }
 
-// How many code units the value's legal encoding has: 0 where it has none.
+// How many code units the legal encoding of a character's value has: 0 where the target does not hold it.
 pub fn encoded_length(target: Target, value: u32) -> usize
-    requires { ⌜ value < 0x80000000 ⌝ }
+    requires { ⌜ (encode ucs4 value ≢ []) ⌝ }
     ensures { λ r. ⌜ r ≡ length (encode (targetForm target) value) ⌝ }
 {
     match target {

@@ -5,18 +5,14 @@ ghost use mathlib.Core.List.{[]};
 ghost use Prim.Native.Nat.{_+_, _≤_};
 ghost use lib.ListN.{length};
 ghost use Rattle.forms.specs.Form.{encode};
-ghost use Rattle.forms.specs.Forms.{utf16};
+ghost use Rattle.forms.specs.Forms.{utf16, ucs4};
 ghost use Rattle.forms.specs.Buffer.{withUnits};
 
+// Of a character's value: 0 where it lies above 10FFFF.
 pub fn encoded_length(value: u32) -> usize
+    requires { ⌜ (encode ucs4 value ≢ []) ⌝ }
     ensures { λ r. ⌜ r ≡ length (encode utf16 value) ⌝ }
 {
-    if value < 0xD800 {
-        return 1;
-    }
-    if value < 0xE000 {
-        return 0;
-    }
     if value < 0x10000 {
         return 1;
     }

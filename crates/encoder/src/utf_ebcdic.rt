@@ -2,6 +2,8 @@
 // looks up in one copy of it.
 use tables::ByteForm;
 ghost use mathlib.Core.Path.{_≡_};
+ghost use mathlib.Core.Logic.{_≢_};
+ghost use mathlib.Core.List.{[]};
 ghost use Prim.Native.Nat.{_+_, _<_, _≤_};
 ghost use lib.ListN.{length};
 ghost use Rattle.forms.specs.Form.{encode};
@@ -20,7 +22,7 @@ fn unit(table: &[u8; 256], byte: u32) -> u8
 
 // What `crate::bytes::write` does for UTF-EBCDIC.
 pub fn write(table: &[u8; 256], value: u32, dst: &mut [u8], at: usize) -> usize
-    requires { ⌜ Tabulates ebcdicOf (now table) × (value < 0x80000000) × (at + length (encode utfEbcdic value) ≤ length (now dst)) ⌝ }
+    requires { ⌜ Tabulates ebcdicOf (now table) × (encode utfEbcdic value ≢ []) × (at + length (encode utfEbcdic value) ≤ length (now dst)) ⌝ }
     ensures { λ r. ⌜ (r ≡ at + length (encode utfEbcdic value)) × (now (dst .exit) ≡ withUnits (now (dst .entry)) at (encode utfEbcdic value)) ⌝ }
 {
     if value < 0xA0 {

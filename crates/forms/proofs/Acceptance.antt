@@ -1,9 +1,10 @@
--- The starred points of document 01, "Points for acceptance trial": one table under one statement, of the rules themselves.
+-- The starred points of document 01, "Points for acceptance trial", as request 104 changes them: one table under one statement, of the rules
+-- themselves.
 use Prim.Native.Nat.{ℕ}
 use mathlib.Core.Path.{_≡_, refl}
 use mathlib.Core.List.{List, [], _∷_, map}
 use lib.ListN.{length}
-use Rattle.types.specs.declared.Fault.the-variants.{MissingTrailing, StrayTrailing, InvalidUnit, Overlong, Unrepresentable}
+use Rattle.types.specs.declared.Fault.the-variants.{MissingTrailing, StrayTrailing, InvalidUnit, Overlong, Surrogate}
 use Rattle.types.specs.declared.Item.{Item}
 use Rattle.types.specs.declared.Item.the-variants.{Character, Mark}
 use Rattle.forms.specs.Fault.{refusal}
@@ -36,8 +37,8 @@ starred =
     reads fssUtf (0xC0 ∷ 0x80 ∷ []) (Mark Overlong (span 0 2) ∷ []) ∷
     reads fssUtf (0xFE ∷ []) (Mark InvalidUnit (span 0 1) ∷ []) ∷
     reads fssUtf (0xE2 ∷ 0x89 ∷ 0x41 ∷ []) (Mark MissingTrailing (span 0 2) ∷ Character 0x41 (span 2 1) ∷ []) ∷
-    reads fssUtf (0xED ∷ 0xA0 ∷ 0x80 ∷ []) (Character 0xD800 (span 0 3) ∷ []) ∷
-    converts fssUtf utf16 (0xED ∷ 0xA0 ∷ 0x80 ∷ []) 2 (refused (refusal Unrepresentable 0)) ∷
+    reads fssUtf (0xED ∷ 0xA0 ∷ 0x80 ∷ []) (Mark Surrogate (span 0 3) ∷ []) ∷
+    converts fssUtf utf16 (0xED ∷ 0xA0 ∷ 0x80 ∷ []) 2 (refused (refusal Surrogate 0)) ∷
     reads utfEbcdic (0x47 ∷ 0x80 ∷ []) (Character 0xA0 (span 0 2) ∷ []) ∷
     reads utfEbcdic (0x9A ∷ 0x80 ∷ 0x80 ∷ []) (Character 0x400 (span 0 3) ∷ []) ∷
     reads utfEbcdic (0xB2 ∷ 0xBF ∷ 0x80 ∷ 0x80 ∷ []) (Character 0x4000 (span 0 4) ∷ []) ∷

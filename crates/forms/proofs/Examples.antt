@@ -8,7 +8,7 @@ use native.Mathlib.Omega.{arith}
 use borrow.Author.Tests.{lt-ltb, le-ltb}
 use lib.ListN.{length, drop}
 use Rattle.types.specs.declared.Fault.{Fault}
-use Rattle.types.specs.declared.Fault.the-variants.{SourceTooLong, MissingTrailing, StrayTrailing, InvalidUnit, Overlong, Unrepresentable, BufferTooShort, OffsetOutOfRange}
+use Rattle.types.specs.declared.Fault.the-variants.{SourceTooLong, MissingTrailing, StrayTrailing, InvalidUnit, Overlong, Unrepresentable, BufferTooShort, OffsetOutOfRange, Surrogate}
 use Rattle.types.specs.declared.Item.{Item}
 use Rattle.types.specs.declared.Item.the-variants.{Character, Mark}
 use Rattle.types.specs.declared.Conversion.{Conversion}
@@ -17,9 +17,8 @@ use Rattle.types.specs.declared.Start.{Start}
 use Rattle.forms.specs.Fault.{limit, refusal}
 use Rattle.forms.specs.Answer.{numbers, conversionNumbers, decodingNumbers, startNumbers, itemValues, itemNumbers}
 use Rattle.forms.specs.Form.{units, Form, sequences, span, spanOf, items, encode, encodeAll, AllEncodable, WellFormed, OccursAt}
-use Rattle.forms.specs.Layout.{formOf}
 use Rattle.forms.specs.Exchange.{ebcdicOf}
-use Rattle.forms.specs.Forms.{byteLayout, utf16Layout, fssUtf, i8, utfEbcdic, utf16, ucs4}
+use Rattle.forms.specs.Forms.{fssUtf, i8, utfEbcdic, utf16, ucs4}
 use Rattle.forms.specs.Flags.{flagOf}
 use Rattle.types.specs.declared.Decoding.the-variants as Decoding
 use Rattle.types.specs.declared.Decoding.the-variants.{Decoded}
@@ -61,11 +60,6 @@ expected (lacks F v) = excluded [] none
 expected (reads F s is) = read is
 expected (converts F G s d a t) = converted a t
 
--- FSS-UTF that excludes what UTF-16 does: of document 01's forms none has a sequence of a value that it excludes
-abbrev excluding : Form
-excluding =
-    formOf (record { rows = (byteLayout 6 6) .rows; low = (byteLayout 6 6) .low; radix = (byteLayout 6 6) .radix; excluded = utf16Layout .excluded })
-
 -- the input of document 01's listing
 abbrev listing : List ℕ
 listing = 0x41 ∷ 0xC2 ∷ 0xA9 ∷ 0x80 ∷ 0xE2 ∷ 0x89 ∷ 0x0A ∷ []
@@ -77,6 +71,10 @@ byteEncodings =
     encodes fssUtf 0x80 (0xC2 ∷ 0x80 ∷ []) ∷
     encodes fssUtf 0x7FF (0xDF ∷ 0xBF ∷ []) ∷
     encodes fssUtf 0x800 (0xE0 ∷ 0xA0 ∷ 0x80 ∷ []) ∷
+    encodes fssUtf 0xD7FF (0xED ∷ 0x9F ∷ 0xBF ∷ []) ∷
+    excludes fssUtf 0xD800 Surrogate ∷
+    excludes fssUtf 0xDFFF Surrogate ∷
+    encodes fssUtf 0xE000 (0xEE ∷ 0x80 ∷ 0x80 ∷ []) ∷
     encodes fssUtf 0xFFFF (0xEF ∷ 0xBF ∷ 0xBF ∷ []) ∷
     encodes fssUtf 0x10000 (0xF0 ∷ 0x90 ∷ 0x80 ∷ 0x80 ∷ []) ∷
     encodes fssUtf 0x1FFFFF (0xF7 ∷ 0xBF ∷ 0xBF ∷ 0xBF ∷ []) ∷
@@ -87,6 +85,10 @@ byteEncodings =
     encodes i8 0xA0 (0xC5 ∷ 0xA0 ∷ []) ∷
     encodes i8 0x3FFF (0xEF ∷ 0xBF ∷ 0xBF ∷ []) ∷
     encodes i8 0x4000 (0xF0 ∷ 0xB0 ∷ 0xA0 ∷ 0xA0 ∷ []) ∷
+    encodes i8 0xD7FF (0xF1 ∷ 0xB5 ∷ 0xBF ∷ 0xBF ∷ []) ∷
+    excludes i8 0xD800 Surrogate ∷
+    excludes i8 0xDFFF Surrogate ∷
+    encodes i8 0xE000 (0xF1 ∷ 0xB8 ∷ 0xA0 ∷ 0xA0 ∷ []) ∷
     encodes i8 0x7FFFFFFF (0xFF ∷ 0xBF ∷ 0xBF ∷ 0xBF ∷ 0xBF ∷ 0xBF ∷ 0xBF ∷ []) ∷
     lacks i8 0x80000000 ∷
     encodes utfEbcdic 0x3FFF (0xFB ∷ 0xFE ∷ 0xFE ∷ []) ∷
@@ -96,18 +98,22 @@ byteEncodings =
 pub byte-encodings-hold : map actual byteEncodings ≡ map expected byteEncodings
 byte-encodings-hold = refl
 
--- both sides of fault 6; UCS-4 carries all
+-- both sides of faults 10 and 6
 abbrev pub unitEncodings : List Example
 unitEncodings =
     encodes utf16 0xD7FF (0xD7FF ∷ []) ∷
-    excludes utf16 0xD800 Unrepresentable ∷
-    excludes utf16 0xDFFF Unrepresentable ∷
+    excludes utf16 0xD800 Surrogate ∷
+    excludes utf16 0xDFFF Surrogate ∷
     encodes utf16 0xE000 (0xE000 ∷ []) ∷
     encodes utf16 0x10401 (0xD801 ∷ 0xDC01 ∷ []) ∷
     encodes utf16 0x10FFFF (0xDBFF ∷ 0xDFFF ∷ []) ∷
     excludes utf16 0x110000 Unrepresentable ∷
     encodes ucs4 0x0 (0x0 ∷ []) ∷
-    encodes ucs4 0xD800 (0xD800 ∷ []) ∷
+    encodes ucs4 0xD7FF (0xD7FF ∷ []) ∷
+    excludes ucs4 0xD800 Surrogate ∷
+    excludes ucs4 0xDFFF Surrogate ∷
+    encodes ucs4 0xE000 (0xE000 ∷ []) ∷
+    encodes ucs4 0x110000 (0x110000 ∷ []) ∷
     encodes ucs4 0x7FFFFFFF (0x7FFFFFFF ∷ []) ∷
     lacks ucs4 0x80000000 ∷
     []
@@ -150,8 +156,11 @@ readings =
     reads utf16 (0xD800 ∷ 0xD800 ∷ 0xDC00 ∷ []) (Mark MissingTrailing (span 0 1) ∷ Character 0x10000 (span 1 2) ∷ []) ∷
     reads utf16 (0xD800 ∷ []) (Mark MissingTrailing (span 0 1) ∷ []) ∷
     reads ucs4 (0x80000000 ∷ 0x41 ∷ []) (Mark InvalidUnit (span 0 1) ∷ Character 0x41 (span 1 1) ∷ []) ∷
-    reads excluding (0xED ∷ 0xA0 ∷ 0x80 ∷ 0xEE ∷ 0x80 ∷ 0x80 ∷ []) (Mark Unrepresentable (span 0 3) ∷ Character 0xE000 (span 3 3) ∷ []) ∷
-    reads excluding (0xF0 ∷ 0x8D ∷ 0xA0 ∷ 0x80 ∷ []) (Mark Overlong (span 0 4) ∷ []) ∷
+    reads fssUtf (0xED ∷ 0xA0 ∷ 0x80 ∷ 0xEE ∷ 0x80 ∷ 0x80 ∷ []) (Mark Surrogate (span 0 3) ∷ Character 0xE000 (span 3 3) ∷ []) ∷
+    reads fssUtf (0xED ∷ 0xA0 ∷ 0x80 ∷ 0xED ∷ 0xB0 ∷ 0x80 ∷ []) (Mark Surrogate (span 0 3) ∷ Mark Surrogate (span 3 3) ∷ []) ∷
+    reads fssUtf (0xF0 ∷ 0x8D ∷ 0xA0 ∷ 0x80 ∷ []) (Mark Overlong (span 0 4) ∷ []) ∷
+    reads i8 (0xF1 ∷ 0xB6 ∷ 0xA0 ∷ 0xA0 ∷ 0x41 ∷ []) (Mark Surrogate (span 0 4) ∷ Character 0x41 (span 4 1) ∷ []) ∷
+    reads ucs4 (0xD800 ∷ 0xDC00 ∷ 0x41 ∷ []) (Mark Surrogate (span 0 1) ∷ Mark Surrogate (span 1 1) ∷ Character 0x41 (span 2 1) ∷ []) ∷
     []
 
 pub readings-hold : map actual readings ≡ map expected readings
@@ -164,8 +173,9 @@ conversions =
     converts fssUtf utf16 (0x41 ∷ 0xF0 ∷ 0x90 ∷ 0x80 ∷ 0x80 ∷ []) (7 ∷ 7 ∷ 7 ∷ 7 ∷ []) (Units 3) (0x41 ∷ 0xD800 ∷ 0xDC00 ∷ 7 ∷ []) ∷
     converts fssUtf utf16 (0x41 ∷ 0xF0 ∷ 0x90 ∷ 0x80 ∷ 0x80 ∷ []) (7 ∷ 7 ∷ 7 ∷ []) (Units 3) (0x41 ∷ 0xD800 ∷ 0xDC00 ∷ []) ∷
     converts fssUtf utf16 (0x41 ∷ 0xF0 ∷ 0x90 ∷ 0x80 ∷ 0x80 ∷ []) (7 ∷ 7 ∷ []) (Refused (refusal BufferTooShort 0)) (7 ∷ 7 ∷ []) ∷
-    converts fssUtf utf16 (0x41 ∷ 0xED ∷ 0xA0 ∷ 0x80 ∷ 0xED ∷ 0xB0 ∷ 0x80 ∷ []) (7 ∷ []) (Refused (refusal Unrepresentable 1)) (7 ∷ []) ∷
+    converts fssUtf utf16 (0x41 ∷ 0xED ∷ 0xA0 ∷ 0x80 ∷ 0xED ∷ 0xB0 ∷ 0x80 ∷ []) (7 ∷ []) (Refused (refusal Surrogate 1)) (7 ∷ []) ∷
     converts fssUtf utf16 (0x41 ∷ 0xC0 ∷ 0x80 ∷ 0xED ∷ 0xA0 ∷ 0x80 ∷ []) (7 ∷ []) (Refused (refusal Overlong 1)) (7 ∷ []) ∷
+    converts ucs4 utf16 (0xD800 ∷ 0x110000 ∷ []) [] (Refused (refusal Surrogate 0)) [] ∷
     converts ucs4 utf16 (0x110000 ∷ 0x80000000 ∷ []) [] (Refused (refusal Unrepresentable 0)) [] ∷
     converts utf16 utfEbcdic (0x0A ∷ 0x3FFF ∷ []) (7 ∷ 7 ∷ 7 ∷ 7 ∷ []) (Units 4) (0x25 ∷ 0xFB ∷ 0xFE ∷ 0xFE ∷ []) ∷
     []
@@ -183,10 +193,10 @@ promise = record { answer = refl; numbers = refl; cells = refl }
 pub short-promise : Converts fssUtf utf16 (0x41 ∷ 0x42 ∷ []) (7 ∷ []) (Refused (refusal BufferTooShort 0)) (7 ∷ [])
 short-promise = record { answer = refl; numbers = refl; cells = refl }
 
-pub unheld-promise : Converts fssUtf utf16 (0x41 ∷ 0xED ∷ 0xA0 ∷ 0x80 ∷ []) (7 ∷ []) (Refused (refusal Unrepresentable 1)) (7 ∷ [])
+pub unheld-promise : Converts fssUtf utf16 (0x41 ∷ 0xF4 ∷ 0x90 ∷ 0x80 ∷ 0x80 ∷ []) (7 ∷ []) (Refused (refusal Unrepresentable 1)) (7 ∷ [])
 unheld-promise = record { answer = refl; numbers = refl; cells = refl }
 
-pub unheld-place : refusalAt (Character 0xD800 (span 5 3)) ≡ refusal Unrepresentable 5
+pub unheld-place : refusalAt (Character 0x110000 (span 5 4)) ≡ refusal Unrepresentable 5
 unheld-place = refl
 
 -- units put into a buffer, and a buffer that holds some at its front

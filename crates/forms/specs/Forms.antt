@@ -1,11 +1,12 @@
 -- The four forms of document 01, "Byte layouts".
 use Prim.Native.Nat.{ℕ, _-_, _^_}
-use mathlib.Core.Bool.{Bool, cond, _||_}
+use mathlib.Core.Bool.{Bool, cond}
 use mathlib.Core.List.{List, [], _∷_}
-use mathlib.Core.Option.{none, some}
+use mathlib.Core.Option.{Option, none, some}
 use lib.ListN.{take}
 use lib.Dec.{ltb}
-use Rattle.types.specs.declared.Fault.the-variants.{Unrepresentable}
+use Rattle.types.specs.declared.Fault.{Fault}
+use Rattle.types.specs.declared.Fault.the-variants.{Unrepresentable, Surrogate}
 use Rattle.forms.specs.Form.{Form}
 use Rattle.forms.specs.Layout.{Row, row, Layout, within, formOf, exchanged}
 use Rattle.forms.specs.Exchange.{i8Of, ebcdicOf}
@@ -15,13 +16,22 @@ abbrev pub byteRows : ℕ → List Row
 byteRows low =
     row 0x00 (low - 1) 0 ∷ row 0xC0 0xDF 0 ∷ row 0xE0 0xEF 0 ∷ row 0xF0 0xF7 0 ∷ row 0xF8 0xFB 0 ∷ row 0xFC 0xFD 0 ∷ row 0xFE 0xFF 0 ∷ []
 
--- the byte layout of so many free bits to a trailing byte, and of so many bytes to the longest item; it excludes no value
-abbrev pub byteLayout : ℕ → ℕ → Layout
-byteLayout bits longest =
-    record { rows = take longest (byteRows (0xC0 - 2 ^ bits)); low = 0xC0 - 2 ^ bits; radix = 2 ^ bits; excluded = λ v. none }
-
 abbrev pub isSurrogate : ℕ → Bool
 isSurrogate v = within 0xD800 0xDFFF v
+
+-- request 104, "surrogate values are not characters": what no form carries
+abbrev pub noCharacter : ℕ → Option Fault
+noCharacter v = cond (isSurrogate v) (some Surrogate) none
+
+-- the fault of the first of two tests, and else of the second
+abbrev pub orElse : Option Fault → Option Fault → Option Fault
+orElse none y = y
+orElse (some f) y = some f
+
+-- the byte layout of so many free bits to a trailing byte, and of so many bytes to the longest item
+abbrev pub byteLayout : ℕ → ℕ → Layout
+byteLayout bits longest =
+    record { rows = take longest (byteRows (0xC0 - 2 ^ bits)); low = 0xC0 - 2 ^ bits; radix = 2 ^ bits; excluded = noCharacter }
 
 -- a unit is its own value; a high unit and a low unit are 10000 + (high - D800) x 400 + (low - DC00)
 abbrev pub utf16Layout : Layout
@@ -30,12 +40,12 @@ utf16Layout =
       rows = row 0x0000 0xFFFF 0 ∷ row 0xD800 0xDBFF 0x10000 ∷ [];
       low = 0xDC00;
       radix = 0x400;
-      excluded = λ v. cond (isSurrogate v || ltb 0x10FFFF v) (some Unrepresentable) none;
+      excluded = λ v. orElse (noCharacter v) (cond (ltb 0x10FFFF v) (some Unrepresentable) none);
     }
 
 -- "a unit below 80000000 is its value"; no unit trails
 abbrev pub ucs4Layout : Layout
-ucs4Layout = record { rows = row 0 0x7FFFFFFF 0 ∷ []; low = 0; radix = 0; excluded = λ v. none }
+ucs4Layout = record { rows = row 0 0x7FFFFFFF 0 ∷ []; low = 0; radix = 0; excluded = noCharacter }
 
 abbrev pub fssUtf : Form
 fssUtf = formOf (byteLayout 6 6)

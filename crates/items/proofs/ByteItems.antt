@@ -1,24 +1,26 @@
 -- The item of a byte form at an offset, by the role of its first byte and the trailing bytes behind it.
 use Prim.Native.Nat.{ℕ, zero, suc, _+_, _*_, _-_, _^_, _≤_, _<_}
 use mathlib.Core.Path.{_≡_, refl, sym, ap, _∙_, subst}
+use mathlib.Core.Bool.{true, false}
 use mathlib.Core.List.{List, [], _∷_}
 use native.Mathlib.Omega.{arith}
 use native.Mathlib.Nat.{mul-le-mul-right, le-trans}
 use lib.ListN.{length, getD, drop}
-use Rattle.types.specs.declared.Fault.the-variants.{MissingTrailing, StrayTrailing, InvalidUnit, Overlong}
+use Rattle.types.specs.declared.Fault.the-variants.{MissingTrailing, StrayTrailing, InvalidUnit, Overlong, Surrogate}
 use Rattle.types.specs.declared.Item.{Item}
 use Rattle.types.specs.declared.Item.the-variants.{Character, Mark}
 use Rattle.forms.specs.Form.{Role, lead, Sequence, sequence, Form, taken, firstOf, span, itemOf}
 use Rattle.forms.specs.Layout.{Layout, roleOf, rowAt, number, valueOf, lowestOf, formOf}
+use Rattle.forms.specs.Forms.{isSurrogate}
 use Rattle.laws.proofs.Sequences.{taken-most}
-use Rattle.laws.proofs.LayoutLaws.{InRow, value-small}
+use Rattle.laws.proofs.LayoutLaws.{InRow}
 use Rattle.laws.proofs.AscendingRows.{row-of}
-use Rattle.laws.proofs.Reading.{reads-trailing, reads-invalid, reads-missing, reads-overlong, reads-character, full}
+use Rattle.laws.proofs.Reading.{reads-trailing, reads-invalid, reads-missing, reads-overlong, reads-excluded, reads-character}
 use Rattle.tables.specs.ByteForms.{byteForm, layoutOf, plainOf, roleNumber}
 use Rattle.tables.specs.declared.ByteForm.{ByteForm}
 use Rattle.items.specs.ItemAt.{itemAt}
 use Rattle.items.specs.Tail.{TailIs}
-use Rattle.tables.proofs.ByteLayouts.{passes, fits, rise, not-excluded}
+use Rattle.tables.proofs.ByteLayouts.{passes, fits, rise, layout-excludes}
 use Rattle.items.proofs.Plain.{plainText, item-plain, role-trailing, role-invalid, role-lead, lead-in-row}
 
 module _ (f : ByteForm) (s : List ℕ) (p n : ℕ) (e : n ≡ roleNumber (byteForm f .role (getD s p 0))) where
@@ -91,9 +93,6 @@ module _ (f : ByteForm) (s : List ℕ) (p n : ℕ) (e : n ≡ roleNumber (byteFo
               (zero-origin ((rowAt L k) .origin) ((u - (rowAt L k) .first) * (L .radix) ^ k + number (L .low) (L .radix) (taken (formOf L) k us)) value origin
               (tail .joined ∙ rw (l, count-is)))
 
-          small : value < 0x80000000
-          small = omega (arith, is, value-small L (fits f) (sequence u (taken (formOf L) k us)) (full L (fits f) (rise f) p u us k value leads whole is))
-
           same-span : (g : ℕ → Item) → g (count + 1) ≡ g (k + 1)
           same-span g = ap (λ (m : ℕ). g (m + 1)) count-is
 
@@ -103,8 +102,14 @@ module _ (f : ByteForm) (s : List ℕ) (p n : ℕ) (e : n ≡ roleNumber (byteFo
               ∙ reads-overlong L (fits f) (rise f) p u us k value leads whole is o
               ∙ item-plain f s p
 
-          pub whole-character : lowestOf (layoutOf f) (n - 1) ≤ value → Character value (span p (count + 1)) ≡ itemAt (byteForm f) s p
-          whole-character o =
+          pub no-character : lowestOf (layoutOf f) (n - 1) ≤ value → isSurrogate value ≡ true → Mark Surrogate (span p (count + 1)) ≡ itemAt (byteForm f) s p
+          no-character o x =
+              same-span (λ m. Mark Surrogate (span p m))
+              ∙ reads-excluded L (fits f) (rise f) p u us k value leads whole is Surrogate o (layout-excludes f value ∙ rw x)
+              ∙ item-plain f s p
+
+          pub whole-character : lowestOf (layoutOf f) (n - 1) ≤ value → isSurrogate value ≡ false → Character value (span p (count + 1)) ≡ itemAt (byteForm f) s p
+          whole-character o x =
               same-span (λ m. Character value (span p m))
-              ∙ reads-character L (fits f) (rise f) p u us k value leads whole is o (not-excluded f value small)
+              ∙ reads-character L (fits f) (rise f) p u us k value leads whole is o (layout-excludes f value ∙ rw x)
               ∙ item-plain f s p

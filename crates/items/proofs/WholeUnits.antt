@@ -1,25 +1,24 @@
 -- The items of UTF-16 and UCS-4, by the unit at an offset and the one behind it.
 use Prim.Native.Nat.{ℕ, zero, suc, _+_, _*_, _-_, _≤_, _<_}
 use mathlib.Core.Path.{_≡_, refl, sym, ap, _∙_}
-use mathlib.Core.Bool.{true, false}
 use mathlib.Core.List.{List, [], _∷_}
-use mathlib.Core.Option.{none}
+use mathlib.Core.Option.{none, some}
 use native.Mathlib.Omega.{arith}
 use native.Mathlib.Numerals.{add-one}
 use lib.ListN.{length, getD, drop, drop-of-length-le}
 use lib.Seq.{drop-cons}
 use borrow.Author.Tests.{le-ltb}
-use Rattle.types.specs.declared.Fault.the-variants.{MissingTrailing, StrayTrailing, InvalidUnit}
+use Rattle.types.specs.declared.Fault.the-variants.{MissingTrailing, StrayTrailing, InvalidUnit, Surrogate}
 use Rattle.types.specs.declared.Item.the-variants.{Character, Mark}
 use Rattle.forms.specs.Form.{Role, lead, trailing, invalid, sequence, Form, isTrailing, taken, firstOf, span, itemOf}
 use Rattle.forms.specs.Layout.{Layout, roleOf, valueOf, rowLimit, formOf}
-use Rattle.forms.specs.Forms.{utf16Layout, ucs4Layout, utf16, ucs4}
+use Rattle.forms.specs.Forms.{noCharacter, utf16Layout, ucs4Layout, utf16, ucs4}
 use Rattle.laws.proofs.Digits.{IsDigit}
 use Rattle.laws.proofs.Rows.{within-below, within-above}
 use Rattle.laws.proofs.LayoutLaws.{not-trailing}
 use Rattle.laws.proofs.AscendingRows.{limits-rise, leads-of-row}
 use Rattle.laws.proofs.FourForms.{utf16-fits, utf16-rise, ucs4-fits, ucs4-invalid, low-alone, high-alone, high-unit, low-unit}
-use Rattle.laws.proofs.Reading.{reads-trailing, reads-invalid, reads-missing, reads-character}
+use Rattle.laws.proofs.Reading.{reads-trailing, reads-invalid, reads-missing, reads-excluded, reads-character}
 use Rattle.items.specs.ItemAt.{itemAt}
 
 module _ (s : List ℕ) (p : ℕ) where
@@ -32,10 +31,17 @@ module _ (s : List ℕ) (p : ℕ) where
   pub ucs4-mark : 0x80000000 ≤ u → Mark InvalidUnit (span p 1) ≡ itemAt ucs4 s p
   ucs4-mark h = reads-invalid ucs4 p u us (ucs4-invalid u h)
 
-  pub ucs4-character : u < 0x80000000 → Character u (span p 1) ≡ itemAt ucs4 s p
-  ucs4-character h =
-      reads-character ucs4Layout ucs4-fits (limits-rise ucs4Layout refl) p u us 0 u
-      (leads-of-row ucs4Layout refl 0 u (omega arith) (omega arith) (omega arith)) refl (omega arith) (omega arith) refl
+  module _ (h : u < 0x80000000) where
+    ucs4-lead : roleOf ucs4Layout u ≡ lead 0
+    ucs4-lead = leads-of-row ucs4Layout refl 0 u (omega arith) (omega arith) (omega arith)
+
+    pub ucs4-surrogate : noCharacter u ≡ some Surrogate → Mark Surrogate (span p 1) ≡ itemAt ucs4 s p
+    ucs4-surrogate x =
+        reads-excluded ucs4Layout ucs4-fits (limits-rise ucs4Layout refl) p u us 0 u ucs4-lead refl (omega arith) Surrogate (omega arith) x
+
+    pub ucs4-character : noCharacter u ≡ none → Character u (span p 1) ≡ itemAt ucs4 s p
+    ucs4-character x =
+        reads-character ucs4Layout ucs4-fits (limits-rise ucs4Layout refl) p u us 0 u ucs4-lead refl (omega arith) (omega arith) x
 
   -- a unit of UTF-16 that is no surrogate
   alone : roleOf utf16Layout u ≡ lead 0 → utf16Layout .excluded u ≡ none → Character u (span p 1) ≡ itemAt utf16 s p

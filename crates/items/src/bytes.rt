@@ -86,5 +86,8 @@ pub fn item_at(form: ByteForm, text: &[u8], at: usize) -> Item
     if value < tables::lowest(form, asked) {
         return Item::Mark(Fault::Overlong, span);
     }
+    if crate::is_surrogate(value) {
+        return Item::Mark(Fault::Surrogate, span);
+    }
     Item::Character(value, span)
 }

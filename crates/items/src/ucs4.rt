@@ -20,5 +20,8 @@ pub fn item_at(text: &[u32], at: usize) -> Item
     if 0x80000000 <= unit {
         return Item::Mark(Fault::InvalidUnit, span);
     }
+    if crate::is_surrogate(unit) {
+        return Item::Mark(Fault::Surrogate, span);
+    }
     Item::Character(unit, span)
 }

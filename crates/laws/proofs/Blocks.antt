@@ -1,6 +1,7 @@
 -- Blocks of units: what a loop over one gathers, and a local array that holds one.
 use Prim.Native.Nat.{ℕ, _+_, _-_, _≤_, _<_}
 use mathlib.Core.Path.{_≡_, refl, _∙_, subst}
+use mathlib.Core.Bool.{false}
 use mathlib.Core.List.{List}
 use native.Mathlib.Omega.{arith}
 use native.Mathlib.Nat.{le-trans}
@@ -9,6 +10,8 @@ use borrow.Author.Count.{below-more}
 use lib.Bits.{bitOr, or-add-and, and-le-l, and-le-r}
 use lib.ListN.{length, getD, set, length-set}
 use lib.Seq.{getD-set-same, getD-set-other, paste}
+use Rattle.forms.specs.Forms.{isSurrogate}
+use Rattle.laws.proofs.Rows.{within-below}
 use Rattle.laws.proofs.Buffers.{copy-begin, copy-more}
 
 -- what holds at each of n numbers from `at` on
@@ -41,6 +44,13 @@ pub record AtMost (s : List ℕ) (at n m : ℕ) : Type 0 where
 -- or at least m
 pub record AtLeast (s : List ℕ) (at n m : ℕ) : Type 0 where
   pub each : (k : ℕ) → k < n → m ≤ getD s (at + k) 0
+
+-- none of them is a surrogate
+pub record NoSurrogates (s : List ℕ) (at n : ℕ) : Type 0 where
+  pub each : (k : ℕ) → k < n → isSurrogate (getD s (at + k) 0) ≡ false
+
+pub no-surrogates : {s : List ℕ} {at n m : ℕ} → AtMost s at n m → m < 0xD800 → NoSurrogates s at n
+no-surrogates {s} {at} a h = record { each = λ k i. within-below 0xD800 0xDFFF (getD s (at + k) 0) (omega (arith, a .each k i)) }
 
 or-left : (a b : ℕ) → a ≤ bitOr a b
 or-left a b = omega (arith, or-add-and a b, and-le-r a b)

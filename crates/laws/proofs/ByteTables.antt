@@ -13,12 +13,12 @@ use Rattle.forms.specs.LayoutTable.{TableRow, fssUtfTable, i8Table, tableRowsOf
 use Rattle.forms.specs.Exchange.{i8Of, ebcdicOf}
 use Rattle.forms.specs.Forms.{byteLayout, fssUtf, i8, utfEbcdic}
 use Rattle.laws.specs.LayoutTable.{Full, Says, EachRow, SaysExchanged, OnlyShortest}
-use Rattle.laws.proofs.LayoutLaws.{Fit, laws}
+use Rattle.laws.proofs.LayoutLaws.{Fit}
 use Rattle.laws.proofs.AscendingRows.{ascending, limit-positive}
 use Rattle.laws.proofs.LayoutTable.{table-says, shortest-least, shortest-only}
 use Rattle.laws.proofs.Exchanged.{exchangedSequence, full-to, units-again}
 use Rattle.laws.proofs.ExchangeTable.{there, again}
-use Rattle.laws.proofs.FourForms.{fssUtf-fits, i8-fits}
+use Rattle.laws.proofs.FourForms.{fssUtf-fits, i8-fits, i8-laws}
 
 module _ (L : Layout) (ok : ascending L ≡ true) where
   rows-say : (k : ℕ) (rs : List Row) → k + length rs ≡ length (L .rows) → EachRow (Says L) k (tableRowsOf L k rs)
@@ -58,7 +58,7 @@ module _ (c : Sequence) (f : Full utfEbcdic c) where
   i8Sequence = exchangedSequence i8Of c
 
   full : Full i8 (exchangedSequence i8Of c)
-  full = full-to i8Of ebcdicOf i8 there again (laws (byteLayout 5 7) i8-fits) c f
+  full = full-to i8Of ebcdicOf i8 there again i8-laws c f
 
   same-length : length (utfEbcdic .shortest (utfEbcdic .value c)) ≡ length (i8 .shortest (i8 .value i8Sequence))
   same-length = length-map (i8 .shortest (i8 .value i8Sequence)) ebcdicOf
@@ -69,7 +69,7 @@ module _ (c : Sequence) (f : Full utfEbcdic c) where
   exchanged-only : length (utfEbcdic .shortest (utfEbcdic .value c)) ≡ size c → utfEbcdic .shortest (utfEbcdic .value c) ≡ units c
   exchanged-only e =
       ap (map ebcdicOf) (i8-shortest .only i8Sequence full (omega (arith, e, same-length, length-map (c .rest) i8Of)))
-      ∙ units-again i8Of ebcdicOf i8 there again (laws (byteLayout 5 7) i8-fits) c f
+      ∙ units-again i8Of ebcdicOf i8 there again i8-laws c f
 
 pub utfEbcdic-shortest : OnlyShortest utfEbcdic
 utfEbcdic-shortest = record { least = exchanged-least; only = exchanged-only }

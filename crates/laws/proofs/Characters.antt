@@ -1,5 +1,5 @@
 -- Texts of well-formed characters: how they read, and that an accepted text is one.
-use Prim.Native.Nat.{ℕ, zero, suc, _+_, _≤_, _<_}
+use Prim.Native.Nat.{ℕ, zero, suc, _+_, _≤_}
 use mathlib.Core.Path.{_≡_, refl, sym, ap, _∙_, subst}
 use mathlib.Core.Logic.{_≢_}
 use mathlib.Core.Bool.{Bool, true, false, cond}
@@ -19,14 +19,6 @@ use Rattle.laws.specs.TwelvePairs.{Accepted}
 use Rattle.laws.specs.LayoutTable.{AllTrailing}
 use Rattle.laws.proofs.Sequences.{joined, taken-trailing, sequences-full, sequences-joined}
 use Rattle.laws.proofs.FormLaws.{Reads, Laws}
-
--- a value that has a legal encoding lies below 80000000
-pub encodable-small : (F : Form) → Laws F → (v : ℕ) → encode F v ≢ [] → v < 0x80000000
-encodable-small F laws v n = go (encode F v) refl
-  where
-    go : (e : List ℕ) → encode F v ≡ e → v < 0x80000000
-    go [] e = absurd (n e)
-    go (u ∷ t) e = laws .small (sequence u t) v (laws .legal v (sequence u t) e)
 
 -- the characters of values, one behind the other from p on
 abbrev pub charactersFrom : Form → ℕ → List ℕ → List Item
@@ -69,6 +61,10 @@ module _ (F : Form) where
   all-taken (u ∷ us) (suc k) = all-taken us k
 
 module _ (F : Form) (laws : Laws F) where
+  -- what reads as a character has an encoding
+  pub reads-encodable : (c : Sequence) (v : ℕ) → Reads F c v → encode F v ≢ []
+  reads-encodable c v r n = let e : units c ≡ [] = sym (laws .only c v r) ∙ n in let z : _≡_ {A = ℕ} 0 1 = cc in omega arith
+
   -- a legal encoding is no longer than the longest item
   longest-of : (v : ℕ) (e : List ℕ) → encode F v ≡ e → length e ≤ F .longest
   longest-of v [] q = omega arith
@@ -120,9 +116,6 @@ module _ (F : Form) (laws : Laws F) (G : Form) where
       put-some (encode G v) (refusalAt (Character v (span p (length (encode F v))))) (convertItems G (charactersFrom F (p + length (encode F v)) vs)) (a .0)
       ∙ ap (prepend (encode G v)) (convert-characters vs (p + length (encode F v)) (a .1))
 
-  not-empty : (v : ℕ) (c : Sequence) → encode F v ≡ units c → encode F v ≢ []
-  not-empty v c e n = let z : _≡_ {A = ℕ} 0 1 = cc in omega arith
-
   accept-one :
       (c : Sequence) (v : ℕ) (cs : List Sequence) (es fs : List ℕ) → Reads F c v → encode G v ≢ [] → es ≡ encode G v ++ fs
       → Accepted F G (joined cs) fs → Accepted F G (units c ++ joined cs) es
@@ -132,7 +125,7 @@ module _ (F : Form) (laws : Laws F) (G : Form) where
         values = v ∷ a .values;
         source = ap (λ (x : List ℕ). x ++ joined cs) (sym l) ∙ ap (λ (y : List ℕ). encode F v ++ y) (a .source);
         result = e ∙ ap (λ (y : List ℕ). encode G v ++ y) (a .result);
-        from = (not-empty v c l, a .from);
+        from = (reads-encodable F laws c v r, a .from);
         to = (x, a .to);
       }
 

@@ -139,5 +139,6 @@ module _ (to from : ℕ → ℕ) (F : Form) where
             only = only-of;
             small = λ c v r. laws .small (exchangedSequence to c) v (reads-to c v r);
             carries = λ v h x e. laws .carries v h x (map-nil (F .shortest v) e);
+            shared = laws .shared;
             reach = λ u k h. laws .reach (to u) k h;
           }

@@ -3,9 +3,11 @@ use Prim.Native.Nat.{ℕ, _<_}
 use mathlib.Core.Path.{_≡_}
 use mathlib.Core.Logic.{_≢_}
 use mathlib.Core.List.{[]}
-use mathlib.Core.Option.{none}
+use mathlib.Core.Option.{none, some}
 use lib.ListN.{length}
+use Rattle.types.specs.declared.Fault.{Fault}
 use Rattle.forms.specs.Form.{Role, lead, Sequence, units, Form, Content, character, fullContent, encode}
+use Rattle.forms.specs.Forms.{noCharacter}
 use Rattle.laws.specs.LayoutTable.{Full}
 
 -- a full sequence with the content of a character
@@ -22,5 +24,7 @@ pub record Laws (F : Form) : Type 0 where
   pub small : (c : Sequence) (v : ℕ) → Reads F c v → v < 0x80000000
   -- a value below 80000000 that the form does not exclude has an encoding
   pub carries : (v : ℕ) → v < 0x80000000 → F .excluded v ≡ none → F .shortest v ≢ []
+  -- what no form carries, this one does not
+  pub shared : (v : ℕ) (f : Fault) → noCharacter v ≡ some f → F .excluded v ≡ some f
   -- no lead reaches the longest item
   pub reach : (u k : ℕ) → F .role u ≡ lead k → k < F .longest

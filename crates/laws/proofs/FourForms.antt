@@ -2,7 +2,7 @@
 use Prim.Native.Nat.{ℕ, zero, suc, _+_, _-_, _*_, _/_, _^_, _≤_, _<_}
 use mathlib.Core.Path.{_≡_, refl, sym, ap, _∙_, subst}
 use mathlib.Core.Logic.{_⊎_, inl, inr}
-use mathlib.Core.Bool.{Bool, true, false, cond, _||_}
+use mathlib.Core.Bool.{Bool, true, false, cond}
 use mathlib.Core.List.{List, []}
 use mathlib.Core.Option.{Option, none, some}
 use native.Mathlib.Omega.{arith}
@@ -11,11 +11,11 @@ use native.Mathlib.Decide.{decLt}
 use lib.Dec.{ltb}
 use borrow.Author.Tests.{ltb-false}
 use Rattle.types.specs.declared.Fault.{Fault}
-use Rattle.types.specs.declared.Fault.the-variants.{Unrepresentable}
+use Rattle.types.specs.declared.Fault.the-variants.{Unrepresentable, Surrogate}
 use Rattle.forms.specs.Form.{Role, lead, trailing, invalid, sequence, firstOf}
 use Rattle.forms.specs.Layout.{Layout, roleOf, rowAt, rowLimit}
 use Rattle.forms.specs.Exchange.{i8Of, ebcdicOf}
-use Rattle.forms.specs.Forms.{byteLayout, isSurrogate, utf16Layout, ucs4Layout, fssUtf, i8, utfEbcdic, utf16, ucs4}
+use Rattle.forms.specs.Forms.{byteLayout, isSurrogate, noCharacter, orElse, utf16Layout, ucs4Layout, fssUtf, i8, utfEbcdic, utf16, ucs4}
 use Rattle.laws.proofs.FormLaws.{Laws}
 use Rattle.laws.proofs.Rows.{within-in, within-below, within-above, trails-in, trails-below, trails-above, invalid-above}
 use Rattle.laws.proofs.LayoutLaws.{Fit, laws}
@@ -39,10 +39,25 @@ fssUtf-invalid u h = invalid-above (byteLayout 6 6) 0xFE u refl (omega arith) h
 pub ucs4-invalid : (u : ℕ) → 0x80000000 ≤ u → roleOf ucs4Layout u ≡ invalid
 ucs4-invalid u h = invalid-above ucs4Layout 0x80000000 u refl (omega arith) h
 
--- UTF-16: a value that is carried is no surrogate
-not-surrogate : (x y : Bool) → cond (x || y) (some Unrepresentable) none ≡ none → x ≡ false
-not-surrogate true y e = absurd (let z : _≡_ {A = ℕ} 0 1 = cc in omega arith)
-not-surrogate false y e = refl
+-- where neither of two tests has a fault
+else-none : (x y : Option Fault) → orElse x y ≡ none → (x ≡ none) × (y ≡ none)
+else-none none y e = (refl, e)
+else-none (some f) y e = absurd (let z : _≡_ {A = ℕ} 0 1 = cc in omega arith)
+
+passed : (b : Bool) (f : Fault) → cond b (some f) none ≡ none → b ≡ false
+passed true f e = absurd (let z : _≡_ {A = ℕ} 0 1 = cc in omega arith)
+passed false f e = refl
+
+-- UTF-16: a value that is carried is no surrogate, and not above 10FFFF
+module _ (v : ℕ) (free : utf16Layout .excluded v ≡ none) where
+  both-none : (noCharacter v ≡ none) × (cond (ltb 0x10FFFF v) (some Unrepresentable) none ≡ none)
+  both-none = else-none (noCharacter v) (cond (ltb 0x10FFFF v) (some Unrepresentable) none) free
+
+  not-surrogate : isSurrogate v ≡ false
+  not-surrogate = passed (isSurrogate v) Surrogate (both-none .0)
+
+  not-above : ltb 0x10FFFF v ≡ false
+  not-above = passed (ltb 0x10FFFF v) Unrepresentable (both-none .1)
 
 pub low-alone : (u : ℕ) → u < 0xD800 → roleOf utf16Layout u ≡ lead 0
 low-alone u h = rw (trails-below 0xDC00 0x400 u (omega arith), within-below 0xD800 0xDBFF u h, within-in 0 0xFFFF u (omega arith) (omega arith))
@@ -68,7 +83,7 @@ utf16-leads :
     → (rowAt utf16Layout k) .first ≤ u → u ≤ (rowAt utf16Layout k) .last → roleOf utf16Layout u ≡ lead k
 utf16-leads zero v u h b l e f t =
     let q : v ≡ u = omega arith in
-    utf16-alone u (subst (λ (x : ℕ). isSurrogate x ≡ false) q (not-surrogate (isSurrogate v) (ltb 0x10FFFF v) b)) t (decLt u 0xD800) (decLt u 0xE000)
+    utf16-alone u (subst (λ (x : ℕ). isSurrogate x ≡ false) q (not-surrogate v b)) t (decLt u 0xD800) (decLt u 0xE000)
 utf16-leads (suc zero) v u h b l e f t = high-unit u f t
 utf16-leads (suc (suc k)) v u h b l e f t = absurd (omega arith)
 
@@ -91,11 +106,6 @@ pub utf16-rise : (k : ℕ) → suc k < 2 → rowLimit utf16Layout k ≤ rowLimit
 utf16-rise zero h = omega arith
 utf16-rise (suc k) h = absurd (omega arith)
 
-not-above : (x y : Bool) → cond (x || y) (some Unrepresentable) none ≡ none → y ≡ false
-not-above true y e = absurd (let z : _≡_ {A = ℕ} 0 1 = cc in omega arith)
-not-above false true e = absurd (let z : _≡_ {A = ℕ} 0 1 = cc in omega arith)
-not-above false false e = refl
-
 pub utf16-fits : Fit utf16Layout
 utf16-fits =
     record {
@@ -103,20 +113,23 @@ utf16-fits =
       above = utf16-above;
       leads = utf16-leads;
       bound = utf16-bound;
-      reaches = λ v h x. (1, omega arith, omega (arith, ltb-false 0x10FFFF v (not-above (isSurrogate v) (ltb 0x10FFFF v) x)));
+      reaches = λ v h x. (1, omega arith, omega (arith, ltb-false 0x10FFFF v (not-above v x)));
     }
 
 pub fssUtf-laws : Laws fssUtf
-fssUtf-laws = laws (byteLayout 6 6) fssUtf-fits
+fssUtf-laws = laws (byteLayout 6 6) fssUtf-fits (λ v f e. e)
+
+pub i8-laws : Laws i8
+i8-laws = laws (byteLayout 5 7) i8-fits (λ v f e. e)
 
 pub utfEbcdic-laws : Laws utfEbcdic
-utfEbcdic-laws = exchanged-laws i8Of ebcdicOf i8 there again (laws (byteLayout 5 7) i8-fits)
+utfEbcdic-laws = exchanged-laws i8Of ebcdicOf i8 there again i8-laws
 
 pub utf16-laws : Laws utf16
-utf16-laws = laws utf16Layout utf16-fits
+utf16-laws = laws utf16Layout utf16-fits (λ v f e. rw e)
 
 pub ucs4-laws : Laws ucs4
-ucs4-laws = laws ucs4Layout ucs4-fits
+ucs4-laws = laws ucs4Layout ucs4-fits (λ v f e. e)
 
 -- "A UCS-4 unit is always one item."
 module _ (u : ℕ) (us : List ℕ) where

@@ -14,6 +14,7 @@ use lib.ListN.{length, getD}
 use Rattle.types.specs.declared.Fault.{Fault}
 use Rattle.forms.specs.Form.{Role, lead, trailing, invalid, Sequence, sequence, units, Form, isTrailing, Content, character, mark, isShorter, overlong, carried, fullContent, unless, encode}
 use Rattle.forms.specs.Layout.{Row, row, Layout, leadIn, roleOf, rowAt, number, valueOf, limitOf, rowLimit, lowestOf, digits, spelled, shortestIn, formOf}
+use Rattle.forms.specs.Forms.{noCharacter}
 use Rattle.laws.specs.LayoutTable.{Full, AllTrailing}
 use Rattle.laws.proofs.Sequences.{same-units}
 use Rattle.laws.proofs.FormLaws.{Reads, Laws}
@@ -299,13 +300,14 @@ module _ (L : Layout) (fits : Fit L) where
       let h = unless-cons (L .excluded v) (F .shortest v) (c .first) (c .rest) e in
       legal-of v c (h .0) (h .1) (spelling v)
 
-  pub laws : Laws F
-  laws =
+  pub laws : ((v : ℕ) (f : Fault) → noCharacter v ≡ some f → L .excluded v ≡ some f) → Laws F
+  laws shared =
       record {
         legal = legal;
         only = only;
         small = small;
         carries = λ v h x. let r = fits .reaches v h x in spelled-below L (L .rows) 0 v (r .0) (r .1) (rw (zero-add (r .0)) (r .2));
+        shared = shared;
         reach = λ u k h. in-row u k h .inside;
       }
 

@@ -8,6 +8,7 @@ pub mod AscendingRows
 pub mod Exchanged
 pub mod ExchangeTable
 pub mod FourForms
+pub mod Carried
 pub mod Reading
 pub mod Spans
 pub mod LayoutTable

@@ -15,11 +15,13 @@ use Rattle.types.specs.declared.Item.the-variants.{Character, Mark}
 use Rattle.types.specs.declared.Refusal.{Refusal}
 use Rattle.forms.specs.Fault.{limit, refusal}
 use Rattle.forms.specs.Form.{Form, Content, character, mark, size, content, span, spanOf, withSpan, firstOf, itemOf, items, encode, asked}
+use Rattle.forms.specs.Forms.{ucs4}
 use Rattle.forms.specs.Conversion.{Outcome, converted, refused, encoding, refusalAt, prepend, put, convertItems, outcome}
 use Rattle.laws.proofs.Sequences.{taken-trailing}
 use Rattle.laws.proofs.FormLaws.{Reads, Laws}
 use Rattle.laws.proofs.Items.{itemsOnward, sequenceAt, items-end, items-step, length-at, within-at}
-use Rattle.laws.proofs.Characters.{content-reads, put-some}
+use Rattle.laws.proofs.Carried.{is-character}
+use Rattle.laws.proofs.Characters.{content-reads, reads-encodable, put-some}
 
 pub prepend-none : (o : Outcome) → o ≡ prepend [] o
 prepend-none (converted es) = refl
@@ -57,14 +59,17 @@ character-at h k e = record { inside = h; is = sym e ∙ k }
 pub mark-at : {F : Form} {s : List ℕ} {p : ℕ} {f : Fault} {q : Span} {i : Item} → p < length s → i ≡ itemOf F p (sequenceAt F s p) → i ≡ Mark f q → MarkAt F s p f q
 mark-at h k e = record { inside = h; is = sym e ∙ k }
 
--- a character of a text has a value below 80000000
-pub character-small : {F : Form} {s : List ℕ} {p v : ℕ} {q : Span} → Laws F → CharacterAt F s p v q → v < 0x80000000
-character-small {F} {s} {p} {v} {q} laws c =
+-- a character of a text has a value that the form carries, and so does UCS-4
+pub character-encodable : {F : Form} {s : List ℕ} {p v : ℕ} {q : Span} → Laws F → CharacterAt F s p v q → encode F v ≢ []
+character-encodable {F} {s} {p} {v} {q} laws c =
     let t = sequenceAt F s p in
-    laws .small t v
+    reads-encodable F laws t v
     (content-reads F t v (taken-trailing F (asked (F .role (t .first))) (drop (p + 1) s)) (with-character (content F t) v q (span p (size t)) (sym (c .is))))
 
--- and carries a loop on, within the text
+pub character-value : {F : Form} {s : List ℕ} {p v : ℕ} {q : Span} → Laws F → CharacterAt F s p v q → encode ucs4 v ≢ []
+character-value {F} {s} {p} {v} laws c = is-character F laws v (character-encodable laws c)
+
+-- and it carries a loop on, within the text
 pub character-onward : {F : Form} {s : List ℕ} {p v : ℕ} {q : Span} → CharacterAt F s p v q → (1 ≤ q .length) × (p + q .length ≤ length s)
 character-onward {F} {s} {p} {v} {q} c =
     let e : q .length ≡ size (sequenceAt F s p) = ap (λ (x : Item). (spanOf x) .length) (c .is) ∙ length-at F s p (c .inside) in

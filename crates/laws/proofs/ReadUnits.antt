@@ -14,11 +14,10 @@ use Rattle.types.specs.declared.Item.{Item}
 use Rattle.types.specs.declared.Item.the-variants.{Character, Mark}
 use Rattle.forms.specs.Form.{Role, lead, Sequence, sequence, size, Form, asked, taken, firstOf, Content, character, mark, content, span, withSpan, itemOf}
 use Rattle.forms.specs.Layout.{Layout, roleOf, rowAt, number, valueOf, lowestOf, formOf}
-use Rattle.laws.specs.LayoutTable.{Full}
 use Rattle.laws.proofs.Sequences.{taken-all, taken-trailing, taken-full}
 use Rattle.laws.proofs.Digits.{IsDigit, AllDigits}
 use Rattle.laws.proofs.Rows.{lead-injective}
-use Rattle.laws.proofs.LayoutLaws.{Fit, fine, all-trailing, all-digits, value-small}
+use Rattle.laws.proofs.LayoutLaws.{Fit, fine, all-trailing, all-digits}
 use Rattle.laws.proofs.AscendingRows.{ascending, ascending-fits, limits-rise, leads-of-row, row-of}
 use Rattle.laws.proofs.Reading.{reads-character}
 use Rattle.laws.proofs.Items.{sequenceAt}
@@ -40,7 +39,7 @@ module _ (s : List ℕ) (p : ℕ) where
       let e : suc (p + 3) ≡ p + 4 = omega arith in
       behind-two (omega arith) ∙ ap {B = List ℕ} (λ (x : List ℕ). getD s (p + 1) 0 ∷ getD s (p + 2) 0 ∷ x) (rw e at (drop-cons s (p + 3) 0 h))
 
-module _ (L : Layout) (passes : ascending L ≡ true) (free : (v : ℕ) → v < 0x80000000 → L .excluded v ≡ none) (s : List ℕ) (p : ℕ) where
+module _ (L : Layout) (passes : ascending L ≡ true) (s : List ℕ) (p : ℕ) where
   abbrev F : Form
   F = formOf L
 
@@ -58,19 +57,18 @@ module _ (L : Layout) (passes : ascending L ≡ true) (free : (v : ℕ) → v < 
       (t r : List ℕ) (v : ℕ) → p < length s → drop (p + 1) s ≡ t ++ r → AllDigits (L .low) (L .radix) t → length t < length (L .rows)
       → (rowAt L (length t)) .first ≤ getD s p 0 → getD s p 0 ≤ (rowAt L (length t)) .last
       → v ≡ (getD s p 0 - (rowAt L (length t)) .first) * (L .radix) ^ length t + number (L .low) (L .radix) t
-      → lowestOf L (length t) ≤ v → CharacterAt (formOf L) s p v (span p (length t + 1))
-  read-units t r v h e a k from to q l =
+      → lowestOf L (length t) ≤ v → L .excluded v ≡ none → CharacterAt (formOf L) s p v (span p (length t + 1))
+  read-units t r v h e a k from to q l free =
       let leads = leads-of-row L passes (length t) u k from to in
       let trail = all-trailing L fits t a in
       let x : taken F (length t) us ≡ t = ap (taken F (length t)) e ∙ taken-all F t r trail in
       let o = row-of L passes (length t) k .zeroed in
       let w : v ≡ valueOf L (sequence u t) = omega arith in
-      let full : Full F (sequence u t) = record { leads = leads; trail = trail } in
       record {
         inside = h;
         is =
             reads-character L fits (limits-rise L passes) p u us (length t) v leads (ap length x) (w ∙ ap (λ (y : List ℕ). valueOf L (sequence u y)) (sym x)) l
-            (free v (omega (arith, value-small L fits (sequence u t) full)));
+            free;
       }
 
   -- what stands at p, where it is known to be a character that begins with a lead of k trailing units

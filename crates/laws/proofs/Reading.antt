@@ -3,12 +3,13 @@ use Prim.Native.Nat.{ℕ, zero, suc, _+_, _≤_, _<_}
 use mathlib.Core.Path.{_≡_, refl, sym, ap, _∙_}
 use mathlib.Core.Bool.{true, false, cond}
 use mathlib.Core.List.{List, [], _∷_}
-use mathlib.Core.Option.{Option, none}
+use mathlib.Core.Option.{Option, none, some}
 use native.Mathlib.Omega.{arith}
 use native.Mathlib.Numerals.{add-one}
 use lib.Dec.{ltb, eqb}
 use borrow.Author.Tests.{eq-eqb, ne-eqb, lt-ltb, le-ltb}
 use lib.ListN.{length}
+use Rattle.types.specs.declared.Fault.{Fault}
 use Rattle.types.specs.declared.Fault.the-variants.{MissingTrailing, StrayTrailing, InvalidUnit, Overlong}
 use Rattle.types.specs.declared.Item.{Item}
 use Rattle.types.specs.declared.Item.the-variants.{Character, Mark}
@@ -62,3 +63,7 @@ module _
 
     pub reads-character : lowestOf L k ≤ v → L .excluded v ≡ none → Character v (span p (k + 1)) ≡ itemOf (formOf L) p (firstOf (formOf L) u us)
     reads-character h x = rw (overlong-is, le-ltb v (lowestOf L k) h, ← is, x) at (reads-full (formOf L) p u us k leads whole)
+
+    -- a mark of the fault of a value that the form does not carry
+    pub reads-excluded : (f : Fault) → lowestOf L k ≤ v → L .excluded v ≡ some f → Mark f (span p (k + 1)) ≡ itemOf (formOf L) p (firstOf (formOf L) u us)
+    reads-excluded f h x = rw (overlong-is, le-ltb v (lowestOf L k) h, ← is, x) at (reads-full (formOf L) p u us k leads whole)

@@ -3,6 +3,7 @@ use Prim.Native.Nat.{ℕ, suc, _+_, _-_, _/_, _%_, _≤_, _<_}
 use mathlib.Core.Path.{_≡_, ap, _∙_}
 use mathlib.Core.Logic.{_≢_}
 use mathlib.Core.List.{List, [], _∷_, append-assoc}
+use mathlib.Core.Option.{none}
 use native.Mathlib.Omega.{arith}
 use native.Mathlib.Nat.{zero-add, sub-zero, div-one}
 use native.Mathlib.Numerals.{add-one}
@@ -10,14 +11,26 @@ use native.Mathlib.Decide.{decLt}
 use lib.ListN.{length, take, drop, set}
 use lib.Seq.{sets, sets-eq}
 use borrow.Author.Tests.{le-ltb, lt-ltb}
-use Rattle.forms.specs.Form.{encode}
+use Rattle.forms.specs.Form.{Form, encode}
 use Rattle.forms.specs.Layout.{formOf}
-use Rattle.forms.specs.Forms.{utf16Layout, utf16, ucs4}
+use Rattle.forms.specs.Forms.{noCharacter, utf16Layout, utf16, ucs4}
 use Rattle.forms.specs.Buffer.{withUnits}
-use Rattle.laws.proofs.Rows.{within-in, within-below, within-above}
+use Rattle.laws.proofs.FormLaws.{Laws}
+use Rattle.laws.proofs.Rows.{within-below, within-above}
+use Rattle.laws.proofs.FourForms.{ucs4-laws}
+use Rattle.laws.proofs.Carried.{free-below, free-outside, outside, not-excluded, encodable-small, encodable-free}
 
-pub ucs4-encoding : (v : ℕ) → v < 0x80000000 → encode ucs4 v ≡ v ∷ []
-ucs4-encoding v h = rw (lt-ltb v 0x80000000 h) (ap {B = List ℕ} (λ (x : ℕ). x ∷ []) (zero-add ((v - 0) / 1) ∙ rw (sub-zero v, div-one v)))
+ucs4-free : (v : ℕ) → v < 0x80000000 → noCharacter v ≡ none → encode ucs4 v ≡ v ∷ []
+ucs4-free v h free = rw (free, lt-ltb v 0x80000000 h) (ap {B = List ℕ} (λ (x : ℕ). x ∷ []) (zero-add ((v - 0) / 1) ∙ rw (sub-zero v, div-one v)))
+
+pub ucs4-encoding : (v : ℕ) → encode ucs4 v ≢ [] → encode ucs4 v ≡ v ∷ []
+ucs4-encoding v n = ucs4-free v (encodable-small ucs4 ucs4-laws v n) (not-excluded ucs4 v n)
+
+pub ucs4-outside : (v : ℕ) → (0xD800 ≤ v → 0xE000 ≤ v) → v < 0x80000000 → encode ucs4 v ≡ v ∷ []
+ucs4-outside v o h = ucs4-free v h (free-outside v o)
+
+pub ucs4-below : (v : ℕ) → v < 0xD800 → encode ucs4 v ≡ v ∷ []
+ucs4-below v h = ucs4-free v (omega arith) (free-below v h)
 
 module _ (v : ℕ) where
   unit-shortest : v < 0x10000 → formOf utf16Layout .shortest v ≡ v ∷ []
@@ -25,9 +38,6 @@ module _ (v : ℕ) where
 
   pub below-surrogates : v < 0xD800 → encode utf16 v ≡ v ∷ []
   below-surrogates h = rw (within-below 0xD800 0xDFFF v h, le-ltb 0x10FFFF v (omega arith)) (unit-shortest (omega arith))
-
-  pub surrogate : 0xD800 ≤ v → v < 0xE000 → encode utf16 v ≡ []
-  surrogate h k = rw (within-in 0xD800 0xDFFF v h (omega arith))
 
   pub above-surrogates : 0xE000 ≤ v → v < 0x10000 → encode utf16 v ≡ v ∷ []
   above-surrogates h k = rw (within-above 0xD800 0xDFFF v (omega arith), le-ltb 0x10FFFF v (omega arith)) (unit-shortest k)
@@ -39,14 +49,13 @@ module _ (v : ℕ) where
   pub above-all : 0x110000 ≤ v → encode utf16 v ≡ []
   above-all h = rw (within-above 0xD800 0xDFFF v (omega arith), lt-ltb 0x10FFFF v (omega arith))
 
-  -- what has an encoding lies in one of the three ranges that have
-  pub unit : encode utf16 v ≢ [] → v < 0x10000 → encode utf16 v ≡ v ∷ []
-  unit n h = go (decLt v 0xD800) (decLt v 0xE000)
+  -- a character that any form carries
+  pub unit : (F : Form) → Laws F → encode F v ≢ [] → v < 0x10000 → encode utf16 v ≡ v ∷ []
+  unit F laws n h = go (decLt v 0xD800)
     where
-      go : Dec (v < 0xD800) → Dec (v < 0xE000) → encode utf16 v ≡ v ∷ []
-      go (yes a) b = below-surrogates a
-      go (no a) (yes b) = absurd (n (surrogate (omega arith) b))
-      go (no a) (no b) = above-surrogates (omega arith) h
+      go : Dec (v < 0xD800) → encode utf16 v ≡ v ∷ []
+      go (yes a) = below-surrogates a
+      go (no a) = above-surrogates (outside v (encodable-free F laws v n) (omega arith)) h
 
   pub below-limit : encode utf16 v ≢ [] → v < 0x110000
   below-limit n = go (decLt v 0x110000)

@@ -1,11 +1,12 @@
 -- What a caller of the converter and of the measure of each pair of forms has besides their contracts.
-use Prim.Native.Nat.{ℕ, _≤_}
+use Prim.Native.Nat.{ℕ, _≤_, _<_}
 use mathlib.Core.Path.{_≡_}
-use mathlib.Core.List.{List}
+use mathlib.Core.Logic.{_≢_}
+use mathlib.Core.List.{List, []}
 use lib.ListN.{length, take}
 use Rattle.types.specs.declared.Conversion.the-variants.{Units}
 use Rattle.forms.specs.Fault.{limit}
-use Rattle.forms.specs.Form.{Form, encodeAll, AllEncodable}
+use Rattle.forms.specs.Form.{Form, encode, encodeAll, AllEncodable}
 use Rattle.forms.specs.Conversion.{converted, outcome, Converts}
 use Rattle.laws.specs.Exactness.{Exact, ExactLength}
 use Rattle.laws.specs.RoundTrip.{RoundTrip}
@@ -27,6 +28,8 @@ pub record Pair (F G : Form) (most : ℕ → ℕ) : Type 0 where
   pub characters : (s d : List ℕ) (n : ℕ) (o : List ℕ) → Converts F G s d (Units n) o → Accepted F G s (take n o)
   -- and every text of values that both forms have encodings of is accepted
   pub accepts : (vs : List ℕ) → AllEncodable F vs → AllEncodable G vs → length (encodeAll F vs) ≤ limit → outcome F G (encodeAll F vs) ≡ converted (encodeAll G vs)
+  -- "fault 6 is left with values above 10FFFF" (request 104): a character that the target does not hold is one
+  pub beyond : (v : ℕ) → encode F v ≢ [] → encode G v ≡ [] → 0x10FFFF < v
   -- an accepted text of n units has a result of at most so many
   pub room : Room F G most
   -- and comes back from the other form as it was

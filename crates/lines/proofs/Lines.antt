@@ -5,7 +5,7 @@ use mathlib.Core.List.{List, [], _∷_, _++_, append-assoc}
 use native.Mathlib.Omega.{arith}
 use lib.ListN.{length}
 use Rattle.types.specs.declared.Fault.{Fault}
-use Rattle.types.specs.declared.Fault.the-variants.{SourceTooLong, MissingTrailing, StrayTrailing, InvalidUnit, Overlong, Unrepresentable, BufferTooShort, OffsetOutOfRange}
+use Rattle.types.specs.declared.Fault.the-variants.{SourceTooLong, MissingTrailing, StrayTrailing, InvalidUnit, Overlong, Unrepresentable, BufferTooShort, OffsetOutOfRange, Surrogate}
 use Rattle.types.specs.declared.Item.{Item}
 use Rattle.forms.specs.Fault.{numberOf}
 use Rattle.forms.specs.Form.{spanOf}
@@ -27,7 +27,10 @@ four-digits n h = decimal-length 3 n h
 pub one-digit : (n : ℕ) → n < 10 → length (decimal n) ≤ 1
 one-digit n h = decimal-length 0 n h
 
-pub number-small : (f : Fault) → numberOf f < 10
+pub two-digits : (n : ℕ) → n < 100 → length (decimal n) ≤ 2
+two-digits n h = decimal-length 1 n h
+
+pub number-small : (f : Fault) → numberOf f < 100
 number-small SourceTooLong = omega arith
 number-small MissingTrailing = omega arith
 number-small StrayTrailing = omega arith
@@ -36,3 +39,4 @@ number-small Overlong = omega arith
 number-small Unrepresentable = omega arith
 number-small BufferTooShort = omega arith
 number-small OffsetOutOfRange = omega arith
+number-small Surrogate = omega arith

@@ -4,11 +4,11 @@ use mathlib.Core.Path.{_≡_, refl, sym, _∙_}
 use mathlib.Core.Bool.{Bool, true, false, _&&_, _||_}
 use mathlib.Core.List.{List}
 use native.Mathlib.Omega.{arith}
-use borrow.Author.Tests.{le-leb, ltb-true, ltb-false}
+use borrow.Author.Tests.{le-leb, leb-false, ltb-true, ltb-false}
 use lib.Dec.{leb, ltb}
 use lib.ListN.{length, getD}
 use Rattle.forms.specs.Form.{span}
-use Rattle.forms.specs.Forms.{utf16, ucs4}
+use Rattle.forms.specs.Forms.{isSurrogate, utf16, ucs4}
 use Rattle.laws.proofs.Progress.{CharacterAt}
 use Rattle.items.proofs.WholeUnits.{ucs4-character}
 use Rattle.characters.proofs.Shorts.{unit-below, unit-above}
@@ -20,6 +20,11 @@ or-false-left true b e = e
 pub or-false-right : (a b : Bool) → (a || b) ≡ false → b ≡ false
 or-false-right false b e = e
 or-false-right true b e = absurd (let z : _≡_ {A = ℕ} 0 1 = cc in omega arith)
+
+-- of three tests the last two
+pub apart : (a b c : Bool) → ((a || b) || c) ≡ false → (b || c) ≡ false
+apart false b c e = e
+apart true b c e = absurd (let z : _≡_ {A = ℕ} 0 1 = cc in omega arith)
 
 module _ {s : List ℕ} {p : ℕ} where
   -- no surrogate
@@ -34,5 +39,10 @@ module _ {s : List ℕ} {p : ℕ} where
           (let w : (leb 0xD800 x && ltb x 0xE000) ≡ true = rw (le-leb 0xD800 x (ltb-false x 0xD800 f), g) in
           let z : _≡_ {A = ℕ} 0 1 = cc (sym w ∙ t) in omega arith)
 
-  pub ucs4-unit : {x : ℕ} → p < length s → x ≡ getD s p 0 → x < 0x80000000 → CharacterAt ucs4 s p x (span p 1)
-  ucs4-unit {x} h e l = record { inside = h; is = rw e (ucs4-character s p (omega arith)) }
+  -- nor beyond what a unit may be
+  pub ucs4-unit :
+      {x : ℕ} {gap : Bool} → p < length s → x ≡ getD s p 0 → gap ≡ isSurrogate (getD s p 0) → (gap || leb 0x80000000 (getD s p 0)) ≡ false → CharacterAt ucs4 s p x (span p 1)
+  ucs4-unit {x} {gap} h e is t =
+      let u = getD s p 0 in
+      let free : isSurrogate u ≡ false = sym is ∙ or-false-left gap (leb 0x80000000 u) t in
+      record { inside = h; is = rw e (ucs4-character s p (leb-false 0x80000000 u (or-false-right gap (leb 0x80000000 u) t)) (rw free)) }

@@ -13,15 +13,15 @@ fn block_at(text: &[u32], at: usize, values: &mut [u32], starts: &mut [u32], ite
         return Read { at, items };
     }
     let mut block = [0u32; 16];
-    let mut all: u32 = 0;
+    let mut bad = false;
     let mut j: usize = 0;
     while j < 16 {
         let unit = text[at + j];
         block[j] = unit;
-        all = all | unit;
+        bad = bad | items::is_surrogate(unit) | (unit >= 0x80000000);
         j += 1;
     }
-    if 0x80000000 <= all {
+    if bad {
         return Read { at, items };
     }
     let mut k: usize = 0;
@@ -46,7 +46,7 @@ fn some_at(text: &[u32], at: usize, values: &mut [u32], starts: &mut [u32], item
     let mut cell = items;
     while to < stop {
         let unit = text[to];
-        if 0x80000000 <= unit {
+        if items::is_surrogate(unit) | (unit >= 0x80000000) {
             break;
         }
         values[cell] = unit;

@@ -7,12 +7,11 @@ use lib.ListN.{length, getD, set, drop}
 use Rattle.forms.specs.Form.{Form, span, encode}
 use Rattle.forms.specs.Forms.{byteLayout, fssUtf}
 use Rattle.laws.proofs.Blocks.{AtMost}
+use Rattle.laws.proofs.Carried.{free-below}
 use Rattle.laws.proofs.Progress.{CharacterAt}
 use Rattle.laws.proofs.ReadUnits.{read-units}
 use Rattle.laws.proofs.Buffers.{with-one}
 use Rattle.laws.proofs.Runs.{Run, run-one, Counted, counted-units, CopyingRun, copying-run-more}
-use Rattle.tables.specs.declared.ByteForm.the-variants as form
-use Rattle.tables.proofs.ByteLayouts.{not-excluded}
 use Rattle.encoder.specs.Target.{targetForm}
 use Rattle.encoder.specs.declared.Target.{Target}
 use Rattle.encoder.proofs.Targets.{counted-ascii}
@@ -20,7 +19,8 @@ use Rattle.encoder.proofs.Targets.{counted-ascii}
 -- an ASCII character has one byte in FSS-UTF
 pub ascii-at : (s : List ℕ) (p : ℕ) → p < length s → getD s p 0 < 0x80 → CharacterAt fssUtf s p (getD s p 0) (span p 1)
 ascii-at s p h l =
-    read-units (byteLayout 6 6) refl (not-excluded form.FssUtf) s p [] (drop (p + 1) s) (getD s p 0) h refl tt (omega arith) (omega arith) (omega arith) (omega arith) (omega arith)
+    read-units (byteLayout 6 6) refl s p [] (drop (p + 1) s) (getD s p 0) h refl tt (omega arith) (omega arith) (omega arith) (omega arith) (omega arith)
+    (free-below (getD s p 0) (omega arith))
 
 module _ {s : List ℕ} {at : ℕ} where
   pub ascii-counted : (t : Target) {k : ℕ} → at + k ≤ length s → AtMost s at k 127 → Counted fssUtf (targetForm t) s at k k

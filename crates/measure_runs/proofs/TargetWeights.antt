@@ -12,12 +12,12 @@ use lib.ListN.{length}
 use Rattle.forms.specs.Form.{encode}
 use Rattle.forms.specs.Forms.{utf16, ucs4, utfEbcdic}
 use Rattle.forms.specs.Layout.{lowestOf}
-use Rattle.laws.proofs.FourForms.{utfEbcdic-laws}
+use Rattle.laws.proofs.FourForms.{utf16-laws}
 use Rattle.tables.specs.ByteForms.{layoutOf}
-use Rattle.tables.proofs.ByteLayouts.{encode-length, not-excluded}
+use Rattle.tables.proofs.ByteLayouts.{carries-below, carries-outside, encode-length}
 use Rattle.tables.specs.declared.ByteForm.the-variants.{UtfEbcdic}
 use Rattle.encoder.specs.declared.Target.the-variants.{Utf16, Ucs4}
-use Rattle.laws.proofs.UnitEncodings.{ucs4-encoding, below-surrogates, above-surrogates, pair, unit}
+use Rattle.laws.proofs.UnitEncodings.{ucs4-encoding, ucs4-outside, ucs4-below, below-surrogates, above-surrogates, pair, unit}
 use Rattle.encoder.proofs.Targets.{encode-seven}
 use Rattle.encoder.specs.declared.Target.the-variants as target
 use Rattle.measure_runs.specs.declared.fss_utf_validation.Weights.{Weights}
@@ -83,17 +83,17 @@ lead-one w p b h i j k l = lead-adds w p b h ∙ rw (not-reached (w .two) b i, n
 pub ucs4-weighs : Weighs ucs4Weights ucs4
 ucs4-weighs =
     record {
-      low = λ v h. cons-some (ucs4-encoding v (omega arith));
-      high = λ v h k. cons-some (ucs4-encoding v (omega arith));
+      low = λ v h. cons-some (ucs4-below v h);
+      high = λ v h k. cons-some (ucs4-outside v (λ z. h) (omega arith));
       few = λ v. encode-seven Ucs4 v;
-      one = λ p b h. ascii-adds high p b h ∙ length-is b (omega arith);
-      two = λ p a b h i j k. two-adds ucs4Weights high far p a b (λ z. omega (arith, z)) j k ∙ lead p a (omega arith) (omega arith) ∙ length-is (value2 a b) (omega arith);
+      one = λ p b h. ascii-adds high p b h ∙ sym (ap length (ucs4-below b (omega arith)));
+      two = λ p a b h i j k. two-adds ucs4Weights high far p a b (λ z. omega (arith, z)) j k ∙ lead p a (omega arith) (omega arith) ∙ sym (ap length (ucs4-below (value2 a b) (omega arith)));
       three =
           λ p a b c h i j k l m u n.
-          three-adds ucs4Weights high far p a b c (λ z. omega (arith, z)) j k l m ∙ lead p a (omega arith) (omega arith) ∙ length-is (value3 a b c) (omega arith);
+          three-adds ucs4Weights high far p a b c (λ z. omega (arith, z)) j k l m ∙ lead p a (omega arith) (omega arith) ∙ sym (ap length (ucs4-encoding (value3 a b c) n));
       four =
           λ p a b c d h i j k l m x y u n.
-          four-adds ucs4Weights high far p a b c d (λ z. omega (arith, z)) j k l m x y ∙ lead p a (omega arith) (omega arith) ∙ length-is (value4 a b c d) (omega arith);
+          four-adds ucs4Weights high far p a b c d (λ z. omega (arith, z)) j k l m x y ∙ lead p a (omega arith) (omega arith) ∙ sym (ap length (ucs4-outside (value4 a b c d) (λ z. omega arith) (omega arith)));
     }
   where
     high : LeadWeights ucs4Weights
@@ -105,9 +105,6 @@ ucs4-weighs =
     lead : (p a : ℕ) → 0xC0 ≤ a → a < 0xFF → added ucs4Weights p a ≡ 1
     lead p a h i = lead-one ucs4Weights p a h i i i i
 
-    length-is : (v : ℕ) → v < 0x80000000 → 1 ≡ length (encode ucs4 v)
-    length-is v h = sym (ap length (ucs4-encoding v h))
-
 pub utf16-weighs : Weighs utf16Weights utf16
 utf16-weighs =
     record {
@@ -118,7 +115,7 @@ utf16-weighs =
       two = λ p a b h i j k. two-adds utf16Weights high far p a b (λ z. omega (arith, z)) j k ∙ lead p a (omega arith) (omega arith) ∙ sym (ap length (below-surrogates (value2 a b) (omega arith)));
       three =
           λ p a b c h i j k l m u n.
-          three-adds utf16Weights high far p a b c (λ z. omega (arith, z)) j k l m ∙ lead p a (omega arith) (omega arith) ∙ sym (ap length (unit (value3 a b c) n (omega arith)));
+          three-adds utf16Weights high far p a b c (λ z. omega (arith, z)) j k l m ∙ lead p a (omega arith) (omega arith) ∙ sym (ap length (unit (value3 a b c) utf16 utf16-laws n (omega arith)));
       four =
           λ p a b c d h i j k l m x y u n.
           four-adds utf16Weights high far p a b c d (λ z. omega (arith, z)) j k l m x y ∙ lead-two p a h (omega arith) ∙ sym (ap length (pair (value4 a b c d) u n));
@@ -146,14 +143,14 @@ utf16-weighs =
 pub utfEbcdic-weighs : Weighs utfEbcdicWeights utfEbcdic
 utfEbcdic-weighs =
     record {
-      low = λ v h. some v (omega arith);
-      high = λ v h k. some v (omega arith);
+      low = λ v h. carries-below UtfEbcdic v h;
+      high = λ v h k. carries-outside UtfEbcdic v (λ z. h) (omega arith);
       few = λ v. encode-seven target.UtfEbcdic v;
-      one = λ p b h. ascii-adds high p b h ∙ sym (encode-length UtfEbcdic b (omega arith) 0 (omega arith) (omega arith) (omega arith));
+      one = λ p b h. ascii-adds high p b h ∙ sym (encode-length UtfEbcdic b (carries-below UtfEbcdic b (omega arith)) 0 (omega arith) (omega arith) (omega arith));
       two = λ p a b h i j k. pair-adds p a b (decLt a 0xC3) (decLt b 0xA0) (decLt a 0xD0) h i j k;
       three =
           λ p a b c h i j k l m u n.
-          three-adds utfEbcdicWeights high far p a b c (λ z. omega (arith, z)) j k l m ∙ lead-three p a b c (decLt a 0xE4) h i j k l m u;
+          three-adds utfEbcdicWeights high far p a b c (λ z. omega (arith, z)) j k l m ∙ lead-three p a b c (decLt a 0xE4) h i j k l m u n;
       four =
           λ p a b c d h i j k l m x y u n.
           four-adds utfEbcdicWeights high far p a b c d (λ z. omega (arith, z)) j k l m x y ∙ lead-four p a b c d (decLt a 0xF1) h i j k l m x y u n;
@@ -165,10 +162,7 @@ utfEbcdic-weighs =
     far : (x : ℕ) → x < 0xC0 → x ≡ 0xC2 → ⊥
     far x h z = omega arith
 
-    some : (v : ℕ) → v < 0x110000 → encode utfEbcdic v ≢ []
-    some v h = utfEbcdic-laws .carries v (omega arith) (not-excluded UtfEbcdic v (omega arith))
-
-    long : (k v : ℕ) → v < 0x80000000 → k < 7 → lowestOf (layoutOf UtfEbcdic) k ≤ v → v < lowestOf (layoutOf UtfEbcdic) (suc k) → suc k ≡ length (encode utfEbcdic v)
+    long : (k v : ℕ) → encode utfEbcdic v ≢ [] → k < 7 → lowestOf (layoutOf UtfEbcdic) k ≤ v → v < lowestOf (layoutOf UtfEbcdic) (suc k) → suc k ≡ length (encode utfEbcdic v)
     long k v s h l b = sym (encode-length UtfEbcdic v s k h l b)
 
     -- a lead between two of the weights
@@ -184,35 +178,35 @@ utfEbcdic-weighs =
         (p a b : ℕ) → Dec (a < 0xC3) → Dec (b < 0xA0) → Dec (a < 0xD0) → 0xC2 ≤ a → a < 0xE0 → 0x80 ≤ b → b < 0xC0
         → added utfEbcdicWeights p a + added utfEbcdicWeights a b ≡ length (encode utfEbcdic (value2 a b))
     pair-adds p a b (yes c) (yes d) f h i j k =
-        rw (lead-two p a (omega arith) c, trailing-adds utfEbcdicWeights high a b j k, lt-leb 0xA0 b d) (long 0 (value2 a b) (omega arith) (omega arith) (omega arith) (omega arith))
+        rw (lead-two p a (omega arith) c, trailing-adds utfEbcdicWeights high a b j k, lt-leb 0xA0 b d) (long 0 (value2 a b) (carries-below UtfEbcdic (value2 a b) (omega arith)) (omega arith) (omega arith) (omega arith))
     pair-adds p a b (yes c) (no d) f h i j k =
         rw (lead-two p a (omega arith) c, trailing-adds utfEbcdicWeights high a b j k, le-leb 0xA0 b (omega arith), eq-eqb a 0xC2 (omega arith))
-        (long 1 (value2 a b) (omega arith) (omega arith) (omega arith) (omega arith))
+        (long 1 (value2 a b) (carries-below UtfEbcdic (value2 a b) (omega arith)) (omega arith) (omega arith) (omega arith))
     pair-adds p a b (no c) d (yes f) h i j k =
         two-adds utfEbcdicWeights high far p a b (λ z. omega (arith, z)) j k
         ∙ lead-is p a true false false false (omega arith) (le-leb 0xC3 a (omega arith)) (lt-leb 0xD0 a f) (lt-leb 0xE4 a (omega arith)) (lt-leb 0xF1 a (omega arith))
-        ∙ long 1 (value2 a b) (omega arith) (omega arith) (omega arith) (omega arith)
+        ∙ long 1 (value2 a b) (carries-below UtfEbcdic (value2 a b) (omega arith)) (omega arith) (omega arith) (omega arith)
     pair-adds p a b (no c) d (no f) h i j k =
         two-adds utfEbcdicWeights high far p a b (λ z. omega (arith, z)) j k
         ∙ lead-is p a true true false false (omega arith) (le-leb 0xC3 a (omega arith)) (le-leb 0xD0 a (omega arith)) (lt-leb 0xE4 a (omega arith)) (lt-leb 0xF1 a (omega arith))
-        ∙ long 2 (value2 a b) (omega arith) (omega arith) (omega arith) (omega arith)
+        ∙ long 2 (value2 a b) (carries-below UtfEbcdic (value2 a b) (omega arith)) (omega arith) (omega arith) (omega arith)
 
     lead-three :
         (p a b c : ℕ) → Dec (a < 0xE4) → 0xE0 ≤ a → a < 0xF0 → 0x80 ≤ b → b < 0xC0 → 0x80 ≤ c → c < 0xC0 → 0x800 ≤ value3 a b c
-        → added utfEbcdicWeights p a ≡ length (encode utfEbcdic (value3 a b c))
-    lead-three p a b c (yes f) h i j k l m u =
+        → encode utfEbcdic (value3 a b c) ≢ [] → added utfEbcdicWeights p a ≡ length (encode utfEbcdic (value3 a b c))
+    lead-three p a b c (yes f) h i j k l m u n =
         lead-is p a true true false false (omega arith) (le-leb 0xC3 a (omega arith)) (le-leb 0xD0 a (omega arith)) (lt-leb 0xE4 a f) (lt-leb 0xF1 a (omega arith))
-        ∙ long 2 (value3 a b c) (omega arith) (omega arith) (omega arith) (omega arith)
-    lead-three p a b c (no f) h i j k l m u =
+        ∙ long 2 (value3 a b c) n (omega arith) (omega arith) (omega arith)
+    lead-three p a b c (no f) h i j k l m u n =
         lead-is p a true true true false (omega arith) (le-leb 0xC3 a (omega arith)) (le-leb 0xD0 a (omega arith)) (le-leb 0xE4 a (omega arith)) (lt-leb 0xF1 a (omega arith))
-        ∙ long 3 (value3 a b c) (omega arith) (omega arith) (omega arith) (omega arith)
+        ∙ long 3 (value3 a b c) n (omega arith) (omega arith) (omega arith)
 
     lead-four :
         (p a b c d : ℕ) → Dec (a < 0xF1) → 0xF0 ≤ a → a < 0xF5 → 0x80 ≤ b → b < 0xC0 → 0x80 ≤ c → c < 0xC0 → 0x80 ≤ d → d < 0xC0
         → 0x10000 ≤ value4 a b c d → value4 a b c d < 0x110000 → added utfEbcdicWeights p a ≡ length (encode utfEbcdic (value4 a b c d))
     lead-four p a b c d (yes f) h i j k l m x y u n =
         lead-is p a true true true false (omega arith) (le-leb 0xC3 a (omega arith)) (le-leb 0xD0 a (omega arith)) (le-leb 0xE4 a (omega arith)) (lt-leb 0xF1 a f)
-        ∙ long 3 (value4 a b c d) (omega arith) (omega arith) (omega arith) (omega arith)
+        ∙ long 3 (value4 a b c d) (carries-outside UtfEbcdic (value4 a b c d) (λ z. omega arith) (omega arith)) (omega arith) (omega arith) (omega arith)
     lead-four p a b c d (no f) h i j k l m x y u n =
         lead-is p a true true true true (omega arith) (le-leb 0xC3 a (omega arith)) (le-leb 0xD0 a (omega arith)) (le-leb 0xE4 a (omega arith)) (le-leb 0xF1 a (omega arith))
-        ∙ long 4 (value4 a b c d) (omega arith) (omega arith) (omega arith) (omega arith)
+        ∙ long 4 (value4 a b c d) (carries-outside UtfEbcdic (value4 a b c d) (λ z. omega arith) (omega arith)) (omega arith) (omega arith) (omega arith)

@@ -1,26 +1,29 @@
 -- How many units a block of UCS-4 becomes: by the bounds that its units reach.
 use Prim.Native.Nat.{ℕ, suc, _+_, _-_, _≤_, _<_}
-use mathlib.Core.Path.{_≡_, refl, ap, _∙_}
+use mathlib.Core.Path.{_≡_, refl, sym, ap, _∙_}
 use mathlib.Core.Logic.{_≢_}
-use mathlib.Core.Bool.{Bool, true, false, _&&_, _||_}
+use mathlib.Core.Bool.{Bool, true, false, _||_}
 use mathlib.Core.List.{List, []}
 use native.Mathlib.Omega.{arith}
 use native.Mathlib.Nat.{add-zero, zero-add}
 use native.Mathlib.Decide.{decLt}
-use lib.Dec.{leb, ltb}
+use lib.Dec.{leb}
 use lib.ListN.{length, getD}
-use borrow.Author.Tests.{le-leb, lt-leb, leb-false, ltb-false}
+use borrow.Author.Tests.{le-leb, lt-leb, leb-false}
 use borrow.Author.Count.{below-none, below-more}
 use Rattle.forms.specs.Form.{Form, encode}
-use Rattle.forms.specs.Forms.{ucs4, utf16}
+use Rattle.forms.specs.Forms.{isSurrogate, ucs4, utf16}
 use Rattle.forms.specs.Layout.{lowestOf}
 use Rattle.laws.proofs.Runs.{Counted, sum, sum-zero, sum-more, Next, between}
-use Rattle.laws.proofs.Blocks.{AtMost}
-use Rattle.laws.proofs.Values.{neither-left, neither-right, and-false, sum-along, sum-plus, sum-ones, sum-none}
+use Rattle.laws.proofs.Blocks.{AtMost, NoSurrogates, no-surrogates}
+use Rattle.laws.proofs.FormLaws.{Laws}
+use Rattle.laws.proofs.FourForms.{utf16-laws}
+use Rattle.laws.proofs.Carried.{outside, is-character}
+use Rattle.laws.proofs.Values.{neither-left, neither-right, sum-along, sum-plus, sum-ones, sum-none}
 use Rattle.tables.specs.ByteForms.{byteForm, layoutOf}
 use Rattle.tables.specs.declared.ByteForm.{ByteForm}
 use Rattle.tables.specs.declared.ByteForm.the-variants.{FssUtf, UtfEbcdic}
-use Rattle.tables.proofs.ByteLayouts.{encode-length, rise}
+use Rattle.tables.proofs.ByteLayouts.{byte-laws, rise, carries, small, encode-length}
 use Rattle.encoder.specs.declared.Target.the-variants as Target
 use Rattle.encoder.proofs.Targets.{encode-seven}
 use Rattle.laws.proofs.UnitEncodings.{below-surrogates, above-surrogates, pair}
@@ -31,13 +34,13 @@ use Rattle.measure_runs.proofs.Ucs4Units.{unit-character}
 some : (e : List ℕ) (n : ℕ) → length e ≡ 1 + n → e ≢ []
 some e n h z = omega (arith, h, ap length z)
 
--- units below 80000000 that the target holds become as many units as their encodings have
-module _ (G : Form) (s : List ℕ) (at k : ℕ) (inside : at + k ≤ length s) where
+-- units that the target holds become as many units as their encodings have
+module _ (G : Form) (laws : Laws G) (s : List ℕ) (at k : ℕ) (inside : at + k ≤ length s) where
   abbrev lengthAt : ℕ → ℕ
   lengthAt i = length (encode G (getD s i 0))
 
   pub counted-units :
-      ((i : ℕ) → i < k → (getD s (at + i) 0 < 0x80000000) × (encode G (getD s (at + i) 0) ≢ []) × (length (encode G (getD s (at + i) 0)) ≤ 7))
+      ((i : ℕ) → i < k → (encode G (getD s (at + i) 0) ≢ []) × (length (encode G (getD s (at + i) 0)) ≤ 7))
       → Counted ucs4 G s at k (sum lengthAt at k)
   counted-units h =
       let e : at + k - at ≡ k = omega arith in
@@ -50,11 +53,11 @@ module _ (G : Form) (s : List ℕ) (at k : ℕ) (inside : at + k ≤ length s) w
           record {
             value = getD s p 0;
             long = 1;
-            character = unit-character s p (omega arith) (u .0);
-            held = u .1;
+            character = unit-character s p (omega arith) (is-character G laws (getD s p 0) (u .0));
+            held = u .0;
             within = omega arith;
             counted = sum-more lengthAt p 0 ∙ rw (sum-zero lengthAt p, add-zero p) (zero-add (lengthAt p));
-            few = u .2;
+            few = u .1;
             border = tt;
           }
 
@@ -110,9 +113,9 @@ rows FssUtf = omega arith
 rows UtfEbcdic = omega arith
 
 -- only UTF-EBCDIC has seven bytes
-seven : (f : ByteForm) (v : ℕ) → v < 0x80000000 → lowestOf (layoutOf f) 6 ≤ v → length (encode (byteForm f) v) ≡ 7
-seven FssUtf v h l = absurd (omega arith)
-seven UtfEbcdic v h l = encode-length UtfEbcdic v h 6 (omega arith) l h
+seven : (f : ByteForm) (v : ℕ) → encode (byteForm f) v ≢ [] → lowestOf (layoutOf f) 6 ≤ v → length (encode (byteForm f) v) ≡ 7
+seven FssUtf v h l = absurd (omega (arith, small FssUtf v h))
+seven UtfEbcdic v h l = encode-length UtfEbcdic v h 6 (omega arith) l (small UtfEbcdic v h)
 
 module _ (f : ByteForm) where
   abbrev low : ℕ → ℕ
@@ -121,7 +124,7 @@ module _ (f : ByteForm) where
   rises : (k : ℕ) → k < 5 → low (suc k) ≤ low (suc (suc k))
   rises k h = rise f k (omega (arith, rows f))
 
-  byte-length : (v : ℕ) → v < 0x80000000 → length (encode (byteForm f) v) ≡ 1 + (reached (low 1) (low 2) (low 3) v + reached (low 4) (low 5) (low 6) v)
+  byte-length : (v : ℕ) → encode (byteForm f) v ≢ [] → length (encode (byteForm f) v) ≡ 1 + (reached (low 1) (low 2) (low 3) v + reached (low 4) (low 5) (low 6) v)
   byte-length v h =
       by-bounds (length (encode (byteForm f) v)) (low 1) (low 2) (low 3) (low 4) (low 5) (low 6) v
       (rises 0 (omega arith))
@@ -145,19 +148,20 @@ module _ (f : ByteForm) where
 
   -- a block of characters
   pub counted-bytes :
-      (s : List ℕ) (at k m : ℕ) → at + k ≤ length s → AtMost s at k m → m < 0x80000000 → Counted ucs4 (byteForm f) s at k (k + (sum (front s) at k + sum (back s) at k))
-  counted-bytes s at k m i a h =
-      let u : (j : ℕ) → j < k → getD s (at + j) 0 < 0x80000000 = λ j b. omega (arith, a .each j b) in
+      (s : List ℕ) (at k m : ℕ) → at + k ≤ length s → AtMost s at k m → m < 0x80000000 → NoSurrogates s at k → Counted ucs4 (byteForm f) s at k (k + (sum (front s) at k + sum (back s) at k))
+  counted-bytes s at k m i a h o =
+      let u : (j : ℕ) → j < k → encode (byteForm f) (getD s (at + j) 0) ≢ [] =
+      λ j b. carries f (getD s (at + j) 0) (omega (arith, a .each j b)) (rw (o .each j b)) in
       let q : sum (λ i. length (encode (byteForm f) (getD s i 0))) at k ≡ k + (sum (front s) at k + sum (back s) at k) =
       sum-along (λ i. length (encode (byteForm f) (getD s i 0))) (λ i. 1 + (front s i + back s i)) at at k (λ j b. byte-length (getD s (at + j) 0) (u j b))
       ∙ sum-plus (λ i. 1) (λ i. front s i + back s i) at k
       ∙ rw (sum-ones at k, sum-plus (front s) (back s) at k) in
-      rw (← q) (counted-units (byteForm f) s at k i (λ j b. (u j b, some (encode (byteForm f) (getD s (at + j) 0)) _ (byte-length (getD s (at + j) 0) (u j b)), byte-seven f (getD s (at + j) 0))))
+      rw (← q) (counted-units (byteForm f) (byte-laws f) s at k i (λ j b. (u j b, byte-seven f (getD s (at + j) 0))))
 
-  small : low 1 ≤ 0x80000000
-  small = go f
+  one-low : low 1 ≤ 0xD800
+  one-low = go f
     where
-      go : (g : ByteForm) → lowestOf (layoutOf g) 1 ≤ 0x80000000
+      go : (g : ByteForm) → lowestOf (layoutOf g) 1 ≤ 0xD800
       go FssUtf = omega arith
       go UtfEbcdic = omega arith
 
@@ -174,9 +178,9 @@ module _ (f : ByteForm) where
         (rises 3 (omega arith))
         (rises 4 (omega arith))) in
         let q : k + (sum (front s) at k + sum (back s) at k) ≡ k = omega (arith, z, y) in
-        rw q at (counted-bytes s at k m i most (omega (arith, small)))
+        rw q at (counted-bytes s at k m i most (omega (arith, one-low)) (no-surrogates most (omega (arith, one-low))))
 
-    module _ {a b c r w : ℕ} (p : a ≡ low 1) (q : b ≡ low 2) (t : c ≡ low 3) (x : r ≡ sum (reachedAt a b c s) at k) (y : w ≡ r) (h : m < 0x80000000) where
+    module _ {a b c r w : ℕ} (p : a ≡ low 1) (q : b ≡ low 2) (t : c ≡ low 3) (x : r ≡ sum (reachedAt a b c s) at k) (y : w ≡ r) (h : m < 0x80000000) (o : NoSurrogates s at k) where
       counted-front : w ≡ sum (front s) at k
       counted-front = y ∙ x ∙ rw (p, q, t)
 
@@ -185,18 +189,18 @@ module _ (f : ByteForm) where
           let z : sum (back s) at k ≡ 0 =
           sum-none (back s) at k (λ j n. reached-none (low 4) (low 5) (low 6) (getD s (at + j) 0) (omega (arith, most .each j n)) (rises 3 (omega arith)) (rises 4 (omega arith))) in
           let v : k + (sum (front s) at k + sum (back s) at k) ≡ k + w = omega (arith, z, counted-front) in
-          rw v at (counted-bytes s at k m i most h)
+          rw v at (counted-bytes s at k m i most h o)
 
       pub bytes-all : {d e g r₂ w₂ : ℕ} → d ≡ low 4 → e ≡ low 5 → g ≡ low 6 → r₂ ≡ sum (reachedAt d e g s) at k → w₂ ≡ r₂ → Counted ucs4 (byteForm f) s at k (k + w + w₂)
       bytes-all {d} {e} {g} {r₂} {w₂} u v n x₂ y₂ =
           let z : w₂ ≡ sum (back s) at k = y₂ ∙ x₂ ∙ rw (u, v, n) in
-          let o : k + (sum (front s) at k + sum (back s) at k) ≡ k + w + w₂ = omega (arith, z, counted-front) in
-          rw o at (counted-bytes s at k m i most h)
+          let t₂ : k + (sum (front s) at k + sum (back s) at k) ≡ k + w + w₂ = omega (arith, z, counted-front) in
+          rw t₂ at (counted-bytes s at k m i most h o)
 
 -- UTF-16
 -- a value that is no surrogate and lies below 110000
 pub record Held (v : ℕ) : Type 0 where
-  pub outside : (0xD800 ≤ v → v < 0xE000 → ⊥)
+  pub outside : (0xD800 ≤ v → 0xE000 ≤ v)
   pub below : v < 0x110000
 
 held-length : (v : ℕ) → Held v → length (encode utf16 v) ≡ 1 + number (leb 0x10000 v)
@@ -204,20 +208,12 @@ held-length v h = go (decLt v 0xD800) (decLt v 0x10000)
   where
     go : Dec (v < 0xD800) → Dec (v < 0x10000) → length (encode utf16 v) ≡ 1 + number (leb 0x10000 v)
     go (yes a) b = ap length (below-surrogates v a) ∙ rw (lt-leb 0x10000 v (omega arith))
-    go (no a) (yes b) = ap length (above-surrogates v (above (decLt v 0xE000)) b) ∙ rw (lt-leb 0x10000 v b)
-      where
-        above : Dec (v < 0xE000) → 0xE000 ≤ v
-        above (yes c) = absurd (h .outside (omega arith) c)
-        above (no c) = omega arith
+    go (no a) (yes b) = ap length (above-surrogates v (h .outside (omega arith)) b) ∙ rw (lt-leb 0x10000 v b)
     go (no a) (no b) = ap length (pair v (omega arith) (h .below)) ∙ rw (le-leb 0x10000 v (omega arith))
 
 -- what the test says of a unit
-held-test : (v : ℕ) → (leb 0xD800 v && ltb v 0xE000) ≡ false → leb 0x110000 v ≡ false → Held v
-held-test v e g =
-    record {
-      outside = λ a b. absurd (let t = and-false (leb 0xD800 v) (ltb v 0xE000) e (le-leb 0xD800 v a) in omega (arith, ltb-false v 0xE000 t));
-      below = leb-false 0x110000 v g;
-    }
+held-test : (v : ℕ) → isSurrogate v ≡ false → leb 0x110000 v ≡ false → Held v
+held-test v e g = record { outside = outside v (rw e); below = leb-false 0x110000 v g }
 
 -- none of k units failed the test
 pub record Clean (s : List ℕ) (at k : ℕ) (bad : Bool) : Type 0 where
@@ -227,16 +223,14 @@ pub clean-none : {s : List ℕ} {at : ℕ} {bad : Bool} → Clean s at 0 bad
 clean-none {s} {at} {bad} = record { each = λ e. below-none (λ (j : ℕ). Held (getD s (at + j) 0)) }
 
 pub clean-more :
-    {s : List ℕ} {at k : ℕ} {bad : Bool} → Clean s at k bad
-    → Clean s at (k + 1) ((bad || (leb 0xD800 (getD s (at + k) 0) && ltb (getD s (at + k) 0) 0xE000)) || leb 0x110000 (getD s (at + k) 0))
-clean-more {s} {at} {k} {bad} c =
+    {s : List ℕ} {at k : ℕ} {bad gap : Bool} → Clean s at k bad → gap ≡ isSurrogate (getD s (at + k) 0) → Clean s at (k + 1) ((bad || gap) || leb 0x110000 (getD s (at + k) 0))
+clean-more {s} {at} {k} {bad} {gap} c is =
     let v = getD s (at + k) 0 in
-    let gap = leb 0xD800 v && ltb v 0xE000 in
     record {
       each =
           λ e.
           let f = neither-left (bad || gap) (leb 0x110000 v) e in
-          below-more (λ (j : ℕ). Held (getD s (at + j) 0)) k (c .each (neither-left bad gap f)) (held-test v (neither-right bad gap f) (neither-right (bad || gap) (leb 0x110000 v) e));
+          below-more (λ (j : ℕ). Held (getD s (at + j) 0)) k (c .each (neither-left bad gap f)) (held-test v (sym is ∙ neither-right bad gap f) (neither-right (bad || gap) (leb 0x110000 v) e));
     }
 
 pub units-most : (s : List ℕ) (i : ℕ) → unitsAt s i ≤ 2
@@ -246,8 +240,8 @@ pub counted-utf16 : (s : List ℕ) (at k : ℕ) → at + k ≤ length s → Clea
 counted-utf16 s at k i c =
     let q = sum-along (λ i. length (encode utf16 (getD s i 0))) (unitsAt s) at at k (λ j b. held-length (getD s (at + j) 0) (c .each refl j b)) in
     rw (← q)
-    (counted-units utf16 s at k i
-    (λ j b. let u = c .each refl j b in (omega (arith, u .below), some (encode utf16 (getD s (at + j) 0)) _ (held-length (getD s (at + j) 0) u), encode-seven Target.Utf16 (getD s (at + j) 0))))
+    (counted-units utf16 utf16-laws s at k i
+    (λ j b. let u = c .each refl j b in (some (encode utf16 (getD s (at + j) 0)) _ (held-length (getD s (at + j) 0) u), encode-seven Target.Utf16 (getD s (at + j) 0))))
 
 -- units below the surrogates are a unit each
 pub utf16-one : {s : List ℕ} {at k m : ℕ} → at + k ≤ length s → AtMost s at k m → m < 0xD800 → Counted ucs4 utf16 s at k k
@@ -255,4 +249,4 @@ utf16-one {s} {at} {k} {m} i a h =
     let one : (j : ℕ) → j < k → length (encode utf16 (getD s (at + j) 0)) ≡ 1 = λ j b. ap length (below-surrogates (getD s (at + j) 0) (omega (arith, a .each j b))) in
     let q : sum (λ i. length (encode utf16 (getD s i 0))) at k ≡ k = sum-along (λ i. length (encode utf16 (getD s i 0))) (λ i. 1) at at k one ∙ sum-ones at k in
     rw q at
-    (counted-units utf16 s at k i (λ j b. (omega (arith, a .each j b), some (encode utf16 (getD s (at + j) 0)) 0 (one j b), encode-seven Target.Utf16 (getD s (at + j) 0))))
+    (counted-units utf16 utf16-laws s at k i (λ j b. (some (encode utf16 (getD s (at + j) 0)) 0 (one j b), encode-seven Target.Utf16 (getD s (at + j) 0))))

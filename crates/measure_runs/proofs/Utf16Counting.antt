@@ -11,20 +11,21 @@ use lib.Dec.{leb, ltb}
 use lib.ListN.{length, getD}
 use borrow.Author.Tests.{le-leb, lt-leb, le-ltb, lt-ltb}
 use Rattle.forms.specs.Form.{encode}
-use Rattle.forms.specs.Forms.{utf16, fssUtf, utfEbcdic, ucs4}
+use Rattle.forms.specs.Forms.{isSurrogate, utf16, fssUtf, utfEbcdic, ucs4}
+use Rattle.laws.proofs.Rows.{within-in, within-below, within-above}
 use Rattle.laws.proofs.Runs.{Counted, sum, sum-zero, sum-more, Next, between}
 use Rattle.laws.proofs.Blocks.{AtMost}
 use Rattle.laws.proofs.Values.{sum-ones}
 use Rattle.tables.specs.declared.ByteForm.the-variants as Byte
-use Rattle.tables.proofs.ByteLayouts.{encode-length}
+use Rattle.tables.proofs.ByteLayouts.{carries-below, carries-outside, encode-length}
 use Rattle.encoder.specs.declared.Target.{Target}
 use Rattle.encoder.specs.declared.Target.the-variants.{FssUtf, UtfEbcdic, Utf16, Ucs4}
 use Rattle.encoder.specs.Target.{targetForm}
 use Rattle.encoder.proofs.Targets.{encode-seven}
-use Rattle.laws.proofs.UnitEncodings.{ucs4-encoding}
+use Rattle.laws.proofs.UnitEncodings.{ucs4-outside, ucs4-below}
 use Rattle.encoder.proofs.FssUtf.{one-byte, two-bytes, three-bytes, four-bytes}
 use Rattle.encoder.proofs.UtfEbcdic as ebcdic
-use Rattle.measure_runs.specs.Utf16Units.{isHigh, isLow, isSurrogate, number, Whole, bytesAt, ebcdicAt, valuesAt, plainOf}
+use Rattle.measure_runs.specs.Utf16Units.{isHigh, isLow, number, Whole, bytesAt, ebcdicAt, valuesAt, plainOf}
 use Rattle.measure_runs.proofs.Utf16Tests.{high-bounds, low-bounds, high-false, low-false, low-not-high, below-not-high, below-not-low, differ}
 use Rattle.measure_runs.proofs.Utf16Pairs.{alone, paired-at, pairValue}
 
@@ -121,14 +122,14 @@ surrogate-reaches u = go (decLt u 0x800)
     go (no h) = rw (le-leb 0x800 u (omega arith)) (number-most (isSurrogate u))
 
 surrogate-two : (u : ℕ) → 0xD800 ≤ u → u < 0xE000 → 1 + number (leb 0x80 u) + number (leb 0x800 u) - number (isSurrogate u) ≡ 2
-surrogate-two u h l = rw (le-leb 0x80 u (omega arith), le-leb 0x800 u (omega arith), le-leb 0xD800 u h, lt-ltb u 0xE000 l)
+surrogate-two u h l = rw (le-leb 0x80 u (omega arith), le-leb 0x800 u (omega arith), within-in 0xD800 0xDFFF u h (omega arith))
 
 not-surrogate : (u : ℕ) → (0xD800 ≤ u → 0xE000 ≤ u) → isSurrogate u ≡ false
 not-surrogate u o = go (decLt u 0xD800)
   where
     go : Dec (u < 0xD800) → isSurrogate u ≡ false
-    go (yes h) = rw (lt-leb 0xD800 u h)
-    go (no h) = rw (le-leb 0xD800 u (omega arith), le-ltb u 0xE000 (o (omega arith)))
+    go (yes h) = within-below 0xD800 0xDFFF u h
+    go (no h) = let l = o (omega arith) in within-above 0xD800 0xDFFF u (omega arith)
 
 unit-bytes : (u : ℕ) → u < 0x10000 → (0xD800 ≤ u → 0xE000 ≤ u) → (n : ℕ) × (1 + number (leb 0x80 u) + number (leb 0x800 u) - number (isSurrogate u) ≡ 1 + n) × (length (encode fssUtf u) ≡ 1 + n)
 unit-bytes u h o = go (decLt u 0x80) (decLt u 0x800)
@@ -136,7 +137,7 @@ unit-bytes u h o = go (decLt u 0x80) (decLt u 0x800)
     go : Dec (u < 0x80) → Dec (u < 0x800) → (n : ℕ) × (1 + number (leb 0x80 u) + number (leb 0x800 u) - number (isSurrogate u) ≡ 1 + n) × (length (encode fssUtf u) ≡ 1 + n)
     go (yes a) b = (0, rw (lt-leb 0x80 u a, lt-leb 0x800 u (omega arith), not-surrogate u o), ap length (one-byte u a))
     go (no a) (yes b) = (1, rw (le-leb 0x80 u (omega arith), lt-leb 0x800 u b, not-surrogate u o), ap length (two-bytes u (omega arith) b))
-    go (no a) (no b) = (2, rw (le-leb 0x80 u (omega arith), le-leb 0x800 u (omega arith), not-surrogate u o), ap length (three-bytes u (omega arith) h))
+    go (no a) (no b) = (2, rw (le-leb 0x80 u (omega arith), le-leb 0x800 u (omega arith), not-surrogate u o), ap length (three-bytes u (carries-outside Byte.FssUtf u o (omega arith)) (omega arith) h))
 
 pub counted-bytes : (s : List ℕ) (at k : ℕ) → ((i : ℕ) → getD s i 0 < 0x10000) → Whole s at k → Counted utf16 fssUtf s at k (sum (bytesAt s) at k)
 counted-bytes s at k units w =
@@ -184,11 +185,11 @@ unit-ebcdic u h o = go (decLt u 0xA0) (decLt u 0x400) (decLt u 0x4000)
     go (no a) (no b) (no c) = (
       3,
       rw (le-leb 0xA0 u (omega arith), le-leb 0x400 u (omega arith), le-leb 0x4000 u (omega arith), not-surrogate u o, not-fifth u o),
-      ap length (ebcdic.four-bytes u (omega arith) (omega arith)),
+      ap length (ebcdic.four-bytes u (carries-outside Byte.UtfEbcdic u o (omega arith)) (omega arith) (omega arith)),
     )
 
 surrogate-ebcdic : (u : ℕ) → 0xD800 ≤ u → u < 0xE000 → ebcdicOf u ≡ 2 + number (leb 0xD8C0 u && ltb u 0xDC00)
-surrogate-ebcdic u h l = rw (le-leb 0xA0 u (omega arith), le-leb 0x400 u (omega arith), le-leb 0x4000 u (omega arith), le-leb 0xD800 u h, lt-ltb u 0xE000 l)
+surrogate-ebcdic u h l = rw (le-leb 0xA0 u (omega arith), le-leb 0x400 u (omega arith), le-leb 0x4000 u (omega arith), within-in 0xD800 0xDFFF u h (omega arith))
 
 low-ebcdic : (u : ℕ) → 0xDC00 ≤ u → u < 0xE000 → ebcdicOf u ≡ 2
 low-ebcdic u h l = surrogate-ebcdic u (omega arith) l ∙ rw (le-leb 0xD8C0 u (omega arith), le-ltb u 0xDC00 h)
@@ -198,16 +199,19 @@ pair-ebcdic :
     → (n : ℕ) × (ebcdicOf x + ebcdicOf y ≡ 1 + n) × (length (encode utfEbcdic (pairValue x y)) ≡ 1 + n)
 pair-ebcdic x y h l = go (decLt x 0xD8C0)
   where
+    carried : (0xD800 ≤ x) × (x < 0xDC00) → (0xDC00 ≤ y) × (y < 0xE000) → encode utfEbcdic (pairValue x y) ≢ []
+    carried h l = carries-outside Byte.UtfEbcdic (pairValue x y) (λ z. omega arith) (omega (arith, h, l))
+
     go : Dec (x < 0xD8C0) → (n : ℕ) × (ebcdicOf x + ebcdicOf y ≡ 1 + n) × (length (encode utfEbcdic (pairValue x y)) ≡ 1 + n)
     go (yes a) = (
       3,
       rw (surrogate-ebcdic x (h .0) (omega (arith, h .1)), low-ebcdic y (l .0) (l .1), lt-leb 0xD8C0 x a),
-      ap length (ebcdic.four-bytes (pairValue x y) (omega arith) (omega (arith, h, l))),
+      ap length (ebcdic.four-bytes (pairValue x y) (carried h l) (omega arith) (omega (arith, h, l))),
     )
     go (no a) = (
       4,
       rw (surrogate-ebcdic x (h .0) (omega (arith, h .1)), low-ebcdic y (l .0) (l .1), le-leb 0xD8C0 x (omega arith), lt-ltb x 0xDC00 (h .1)),
-      encode-length Byte.UtfEbcdic (pairValue x y) (omega (arith, h, l)) 4 (omega arith) (omega (arith, h, l)) (omega (arith, h, l)),
+      encode-length Byte.UtfEbcdic (pairValue x y) (carried h l) 4 (omega arith) (omega (arith, h, l)) (omega (arith, h, l)),
     )
 
 pub counted-ebcdic : (s : List ℕ) (at k : ℕ) → ((i : ℕ) → getD s i 0 < 0x10000) → Whole s at k → Counted utf16 utfEbcdic s at k (sum (ebcdicAt s) at k)
@@ -228,11 +232,11 @@ unit-low u o = go (decLt u 0xDC00)
 pub counted-values : (s : List ℕ) (at k : ℕ) → ((i : ℕ) → getD s i 0 < 0x10000) → Whole s at k → Counted utf16 ucs4 s at k (sum (valuesAt s) at k)
 counted-values s at k units w =
     counted-whole Ucs4 s at k (valuesAt s) units w
-    (λ p h l o. (0, rw (unit-low (getD s p 0) o), ap length (ucs4-encoding (getD s p 0) (omega (arith, units p)))))
+    (λ p h l o. (0, rw (unit-low (getD s p 0) o), ap length (ucs4-outside (getD s p 0) o (omega (arith, units p)))))
     (λ p h l x y. (
       0,
       rw (lt-leb 0xDC00 (getD s p 0) (x .1), le-leb 0xDC00 (getD s (p + 1) 0) (y .0), lt-ltb (getD s (p + 1) 0) 0xE000 (y .1)),
-      ap length (ucs4-encoding (pairValue (getD s p 0) (getD s (p + 1) 0)) (omega (arith, x, y))),
+      ap length (ucs4-outside (pairValue (getD s p 0) (getD s (p + 1) 0)) (λ z. omega arith) (omega (arith, x, y))),
     ))
 
 -- units below the target's bound are one unit each
@@ -244,9 +248,9 @@ plain-below Ucs4 = omega arith
 
 plain-one : (t : Target) (u : ℕ) → u < plainOf t → length (encode (targetForm t) u) ≡ 1
 plain-one FssUtf u h = ap length (one-byte u h)
-plain-one UtfEbcdic u h = encode-length Byte.UtfEbcdic u (omega arith) 0 (omega arith) (omega arith) h
+plain-one UtfEbcdic u h = encode-length Byte.UtfEbcdic u (carries-below Byte.UtfEbcdic u (omega arith)) 0 (omega arith) (omega arith) h
 plain-one Utf16 u h = absurd (omega arith)
-plain-one Ucs4 u h = ap length (ucs4-encoding u (omega arith))
+plain-one Ucs4 u h = ap length (ucs4-below u (omega arith))
 
 pub counted-plain :
     (t : Target) (s : List ℕ) (at k m b : ℕ) → ((i : ℕ) → getD s i 0 < 0x10000) → at + k ≤ length s → AtMost s at k m → b ≡ plainOf t → m < b → Counted utf16 (targetForm t) s at k k

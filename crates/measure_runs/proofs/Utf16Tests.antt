@@ -10,7 +10,10 @@ use borrow.Author.Tests.{le-leb, lt-leb, le-ltb, leb-true, ltb-true, ltb-false}
 use borrow.Author.Count.{below-none, below-more}
 use Rattle.laws.proofs.Table.{and-left, and-right}
 use Rattle.laws.proofs.Values.{neither-left, neither-right, and-false}
-use Rattle.measure_runs.specs.Utf16Units.{isHigh, isLow, isSurrogate, Paired, NoSurrogates, Whole}
+use Rattle.forms.specs.Forms.{isSurrogate}
+use Rattle.laws.proofs.Blocks.{NoSurrogates}
+use Rattle.laws.proofs.Carried.{outside}
+use Rattle.measure_runs.specs.Utf16Units.{isHigh, isLow, Paired, Whole}
 
 pub differ : {A : Type 0} {b : Bool} → b ≡ true → b ≡ false → A
 differ p q = absurd (let z : _≡_ {A = ℕ} 0 1 = cc in omega arith)
@@ -36,10 +39,12 @@ pub low-false : (u : ℕ) → isLow u ≡ false → 0xDC00 ≤ u → 0xE000 ≤ 
 low-false u e h = ltb-false u 0xE000 (and-false (leb 0xDC00 u) (ltb u 0xE000) e (le-leb 0xDC00 u h))
 
 pub surrogate-false : (u : ℕ) → isSurrogate u ≡ false → 0xD800 ≤ u → 0xE000 ≤ u
-surrogate-false u e h = ltb-false u 0xE000 (and-false (leb 0xD800 u) (ltb u 0xE000) e (le-leb 0xD800 u h))
+surrogate-false u e h = outside u (rw e) h
 
 pub surrogate-bounds : (u : ℕ) → isSurrogate u ≡ true → (0xD800 ≤ u) × (u < 0xE000)
-surrogate-bounds u e = (leb-true 0xD800 u (and-left (leb 0xD800 u) (ltb u 0xE000) e), ltb-true u 0xE000 (and-right (leb 0xD800 u) (ltb u 0xE000) e))
+surrogate-bounds u e =
+    let m = leb-true u 0xDFFF (and-right (leb 0xD800 u) (leb u 0xDFFF) e) in
+    (leb-true 0xD800 u (and-left (leb 0xD800 u) (leb u 0xDFFF) e), omega arith)
 
 -- a low unit is no high one
 pub low-not-high : (u : ℕ) → isLow u ≡ true → isHigh u ≡ false

@@ -8,6 +8,7 @@ use Rattle.forms.specs.Form.{Form, span, encode}
 use Rattle.forms.specs.Exchange.{i8Of}
 use Rattle.forms.specs.Forms.{utfEbcdic}
 use Rattle.laws.proofs.Blocks.{AtMost, Held, Copied}
+use Rattle.laws.proofs.Carried.{free-below}
 use Rattle.laws.proofs.Progress.{CharacterAt}
 use Rattle.laws.proofs.Runs.{Run, run-one, Counted, counted-units, Wrote, wrote-block}
 use Rattle.tables.specs.declared.ByteForm.the-variants.{UtfEbcdic}
@@ -24,7 +25,9 @@ module _ (s : List ℕ) (p : ℕ) where
 
   pub single-at : p < length s → i8Of (getD s p 0) < 0xA0 → CharacterAt utfEbcdic s p (i8Of (getD s p 0)) (span p 1)
   single-at h l =
-      one-byte UtfEbcdic s p (omega arith) {v = i8Of (getD s p 0)} (record { inside = omega arith; from = omega arith; to = omega arith }) (omega arith) .character (λ z. omega (arith, z))
+      one-byte UtfEbcdic s p (omega arith) {v = i8Of (getD s p 0)} (record { inside = omega arith; from = omega arith; to = omega arith }) (omega arith)
+      (free-below (i8Of (getD s p 0)) (omega arith))
+      .character (λ z. omega (arith, z))
 
 pub ascii-counted : (t : Target) {s : List ℕ} {at k : ℕ} → at + k ≤ length s → AtMost (map i8Of s) at k 127 → Counted utfEbcdic (targetForm t) s at k k
 ascii-counted t {s} {at} {k} h a =

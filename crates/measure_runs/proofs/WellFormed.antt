@@ -1,7 +1,7 @@
 -- Bytes at which nothing is wrong, between two leads, are whole characters.
 use Prim.Native.Nat.{ℕ, _+_, _-_, _≤_, _<_}
 use mathlib.Core.Path.{_≡_, refl, sym, ap, _∙_}
-use mathlib.Core.Logic.{_≢_}
+use mathlib.Core.Logic.{_≢_, _⊎_, inl, inr, ⊎-elim}
 use mathlib.Core.Bool.{Bool, true, false, not, _&&_, _||_, Bool·beq}
 use mathlib.Core.List.{List, [], _∷_}
 use native.Mathlib.Omega.{arith}
@@ -12,13 +12,12 @@ use borrow.Author.Tests.{lt-ltb, le-leb, lt-leb, eq-eqb, ltb-true, ltb-false, le
 use lib.ListN.{length, getD, drop}
 use Rattle.forms.specs.Form.{Form, encode}
 use Rattle.forms.specs.Forms.{byteLayout, fssUtf}
+use Rattle.laws.proofs.Carried.{free-below, free-above}
 use Rattle.laws.proofs.ReadUnits.{read-units, behind-one, behind-two, behind-three}
 use Rattle.laws.proofs.Runs.{Counted, counted-none, sum, sum-zero, sum-more, sum-join, Next, between}
 use Rattle.laws.proofs.Moved.{counted-moved}
 use Rattle.laws.proofs.Table.{and-left, and-right}
 use Rattle.laws.proofs.Values.{neither-left as or-left, neither-right as or-right, and-false}
-use Rattle.tables.proofs.ByteLayouts.{not-excluded}
-use Rattle.tables.specs.declared.ByteForm.the-variants.{FssUtf}
 use Rattle.measure_runs.specs.declared.fss_utf_validation.Weights.{Weights}
 use Rattle.measure_runs.specs.Validation.{isTrailingByte, asksTrailing, noByte, noSecond, illFormed, illFormedAt, Validated, added, addedAt, value2, value3, value4, LeadWeights, Weighs, Weighed, Whole, Padded}
 use Rattle.measure_runs.proofs.Validating.{zeros-add}
@@ -176,7 +175,7 @@ module _ (w : Weights) (G : Form) (weighs : Weighs w G) (s : List ℕ) (from e :
         record {
           value = A;
           long = 1;
-          character = read-units (byteLayout 6 6) refl (not-excluded FssUtf) s at [] (drop (at + 1) s) A (omega arith) refl tt (omega arith) (omega arith) (omega arith) (omega arith) (omega arith);
+          character = read-units (byteLayout 6 6) refl s at [] (drop (at + 1) s) A (omega arith) refl tt (omega arith) (omega arith) (omega arith) (omega arith) (omega arith) (free-below A (omega arith));
           held = weighs .low A (omega arith);
           within = omega arith;
           counted = sum-one (addedAt w s) at ∙ weighs .one (getD s (at - 1) 0) A x;
@@ -192,8 +191,8 @@ module _ (w : Weights) (G : Form) (weighs : Weighs w G) (s : List ℕ) (from e :
           value = value2 A B;
           long = 2;
           character =
-              read-units (byteLayout 6 6) refl (not-excluded FssUtf) s at (B ∷ []) (drop (at + 2) s) (value2 A B) (omega arith) (behind-one s at (omega arith))
-              ((b .0, omega (arith, b .1)), tt) (omega arith) (omega arith) (omega arith) (omega arith) (omega (arith, b));
+              read-units (byteLayout 6 6) refl s at (B ∷ []) (drop (at + 2) s) (value2 A B) (omega arith) (behind-one s at (omega arith))
+              ((b .0, omega (arith, b .1)), tt) (omega arith) (omega arith) (omega arith) (omega arith) (omega (arith, b)) (free-below (value2 A B) (omega (arith, b)));
           held = weighs .low (value2 A B) (omega (arith, b));
           within = omega arith;
           counted = sum-two (addedAt w s) at ∙ rw (before-is (at + 1) at (omega arith)) (weighs .two (getD s (at - 1) 0) A B x y (b .0) (b .1));
@@ -208,13 +207,15 @@ module _ (w : Weights) (G : Form) (weighs : Weighs w G) (s : List ℕ) (from e :
         let c = third (r2 k1) x in
         let k2 = before (at + 2) (omega arith) c in
         let u = least b (decLt A 0xE1) in
-        let n = holds b c (decLt A 0xED) (decLt A 0xEE) in
+        let o = range b c (decLt A 0xED) (decLt A 0xEE) in
+        let n = ⊎-elim (λ h. weighs .low (value3 A B C) h) (λ h. weighs .high (value3 A B C) (h .0) (h .1)) o in
         record {
           value = value3 A B C;
           long = 3;
           character =
-              read-units (byteLayout 6 6) refl (not-excluded FssUtf) s at (B ∷ C ∷ []) (drop (at + 3) s) (value3 A B C) (omega arith) (behind-two s at (omega arith))
-              ((b .0, omega (arith, b .1)), ((c .0, omega (arith, c .1)), tt)) (omega arith) (omega arith) (omega arith) (omega arith) u;
+              read-units (byteLayout 6 6) refl s at (B ∷ C ∷ []) (drop (at + 3) s) (value3 A B C) (omega arith) (behind-two s at (omega arith))
+              ((b .0, omega (arith, b .1)), ((c .0, omega (arith, c .1)), tt)) (omega arith) (omega arith) (omega arith) (omega arith) u
+              (⊎-elim (λ h. free-below (value3 A B C) h) (λ h. free-above (value3 A B C) (h .0)) o);
           held = n;
           within = omega arith;
           counted =
@@ -228,10 +229,10 @@ module _ (w : Weights) (G : Form) (weighs : Weighs w G) (s : List ℕ) (from e :
         least b (yes d) = let z : A ≡ 0xE0 = omega arith in omega (arith, r1 .e0 z)
         least b (no d) = omega arith
 
-        holds : Trails B → Trails C → Dec (A < 0xED) → Dec (A < 0xEE) → encode G (value3 A B C) ≢ []
-        holds b c (yes d) f = weighs .low (value3 A B C) (omega (arith, b, c))
-        holds b c (no d) (yes f) = let z : A ≡ 0xED = omega arith in weighs .low (value3 A B C) (omega (arith, r1 .ed z, b, c, z))
-        holds b c (no d) (no f) = weighs .high (value3 A B C) (omega arith) (omega (arith, b, c))
+        range : Trails B → Trails C → Dec (A < 0xED) → Dec (A < 0xEE) → (value3 A B C < 0xD800) ⊎ ((0xE000 ≤ value3 A B C) × (value3 A B C < 0x110000))
+        range b c (yes d) f = inl (omega (arith, b, c))
+        range b c (no d) (yes f) = let z : A ≡ 0xED = omega arith in inl (omega (arith, r1 .ed z, b, c, z))
+        range b c (no d) (no f) = inr (omega arith, omega (arith, b, c))
 
     four : 0xF0 ≤ A → Next fssUtf G s e (addedAt w s) (Border s) at
     four x =
@@ -247,8 +248,9 @@ module _ (w : Weights) (G : Form) (weighs : Weighs w G) (s : List ℕ) (from e :
           value = value4 A B C D;
           long = 4;
           character =
-              read-units (byteLayout 6 6) refl (not-excluded FssUtf) s at (B ∷ C ∷ D ∷ []) (drop (at + 4) s) (value4 A B C D) (omega arith) (behind-three s at (omega arith))
-              ((b .0, omega (arith, b .1)), ((c .0, omega (arith, c .1)), ((d .0, omega (arith, d .1)), tt))) (omega arith) (omega arith) (omega (arith, r0 .f5)) (omega arith) u;
+              read-units (byteLayout 6 6) refl s at (B ∷ C ∷ D ∷ []) (drop (at + 4) s) (value4 A B C D) (omega arith) (behind-three s at (omega arith))
+              ((b .0, omega (arith, b .1)), ((c .0, omega (arith, c .1)), ((d .0, omega (arith, d .1)), tt))) (omega arith) (omega arith) (omega (arith, r0 .f5)) (omega arith) u
+              (free-above (value4 A B C D) (omega (arith, u)));
           held = weighs .high (value4 A B C D) (omega (arith, u)) m;
           within = omega arith;
           counted =

@@ -5,6 +5,7 @@ use mathlib.Core.Bool.{Bool, true, false, not, _&&_}
 use mathlib.Core.List.{List}
 use lib.Dec.{leb, ltb}
 use lib.ListN.{getD, length}
+use Rattle.forms.specs.Forms.{isSurrogate}
 use Rattle.encoder.specs.declared.Target.{Target}
 use Rattle.encoder.specs.declared.Target.the-variants.{FssUtf, UtfEbcdic, Utf16, Ucs4}
 
@@ -14,9 +15,6 @@ isHigh u = leb 0xD800 u && ltb u 0xDC00
 abbrev pub isLow : ℕ → Bool
 isLow u = leb 0xDC00 u && ltb u 0xE000
 
-abbrev pub isSurrogate : ℕ → Bool
-isSurrogate u = leb 0xD800 u && ltb u 0xE000
-
 abbrev pub number : Bool → ℕ
 number true = 1
 number false = 0
@@ -24,10 +22,6 @@ number false = 0
 -- among k units from `at` on a low one stands behind each high one and behind no other
 pub record Paired (s : List ℕ) (at k : ℕ) : Type 0 where
   pub each : (j : ℕ) → j + 1 < k → isHigh (getD s (at + j) 0) ≡ isLow (getD s (at + j + 1) 0)
-
--- none of them is a surrogate
-pub record NoSurrogates (s : List ℕ) (at k : ℕ) : Type 0 where
-  pub each : (j : ℕ) → j < k → isSurrogate (getD s (at + j) 0) ≡ false
 
 -- the bytes of FSS-UTF: two for each unit of a pair
 abbrev pub bytesAt : List ℕ → ℕ → ℕ

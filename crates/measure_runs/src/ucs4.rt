@@ -9,6 +9,7 @@ ghost use lib.ListN.{length};
 ghost use Rattle.forms.specs.Forms.{ucs4, utf16};
 ghost use Rattle.tables.specs.ByteForms.{byteForm};
 ghost use Rattle.encoder.specs.Target.{targetForm};
+ghost use Rattle.laws.proofs.Blocks.{AtMost, NoSurrogates};
 ghost use Rattle.laws.proofs.Runs.{Counted, sum};
 ghost use Rattle.measure_runs.specs.Ucs4Bounds.{number, reachedAt};
 
@@ -39,6 +40,23 @@ fn reached(first: u32, second: u32, third: u32, src: &[u32], at: usize, count: u
     sum
 }
 
+// Whether a unit of a block is a surrogate value: most blocks do not reach so far.
+fn surrogates(src: &[u32], at: usize, count: usize, most: u32) -> bool
+    requires { ⌜ (at + count ≤ length (now src)) × AtMost (now src) at count most ⌝ }
+    ensures { λ r. ⌜ (r ≡ false → NoSurrogates (now (src .entry)) at count) ⌝ }
+{
+    if most < 0xD800 {
+        return false;
+    }
+    let mut some = false;
+    let mut k: usize = 0;
+    while k < count {
+        some = some | items::is_surrogate(src[at + k]);
+        k += 1;
+    }
+    some
+}
+
 // The bytes of a block, or 0 where one of its units is no character.
 fn byte_block(form: ByteForm, src: &[u32], at: usize, count: usize) -> usize
     requires { ⌜ (count ≤ 32) × (at + count ≤ length (now src)) ⌝ }
@@ -50,6 +68,9 @@ fn byte_block(form: ByteForm, src: &[u32], at: usize, count: usize) -> usize
         return count;
     }
     if 0x80000000 <= most {
+        return 0;
+    }
+    if surrogates(src, at, count, most) {
         return 0;
     }
     let few = reached(
@@ -85,7 +106,7 @@ fn utf16_block(src: &[u32], at: usize, count: usize) -> usize
     let mut k: usize = 0;
     while k < count {
         let unit = src[at + k];
-        bad = bad | ((unit >= 0xD800) & (unit < 0xE000)) | (unit >= 0x110000);
+        bad = bad | items::is_surrogate(unit) | (unit >= 0x110000);
         sum += 1 + number(unit >= 0x10000);
         k += 1;
     }

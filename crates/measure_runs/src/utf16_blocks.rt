@@ -4,8 +4,9 @@ ghost use mathlib.Core.Path.{_≡_};
 ghost use mathlib.Core.Bool.{false};
 ghost use Prim.Native.Nat.{_+_, _<_, _≤_};
 ghost use lib.ListN.{length};
-ghost use Rattle.laws.proofs.Blocks.{AtMost};
-ghost use Rattle.measure_runs.specs.Utf16Units.{isHigh, isLow, isSurrogate, Paired, NoSurrogates};
+ghost use Rattle.forms.specs.Forms.{isSurrogate};
+ghost use Rattle.laws.proofs.Blocks.{AtMost, NoSurrogates};
+ghost use Rattle.measure_runs.specs.Utf16Units.{isHigh, isLow, Paired};
 
 pub fn high(unit: u16) -> bool
     ensures { λ r. ⌜ r ≡ isHigh unit ⌝ }
@@ -22,7 +23,7 @@ pub fn low(unit: u16) -> bool
 pub fn surrogate(unit: u16) -> bool
     ensures { λ r. ⌜ r ≡ isSurrogate unit ⌝ }
 {
-    (unit >= 0xD800) & (unit < 0xE000)
+    (unit >= 0xD800) & (unit <= 0xDFFF)
 }
 
 // The units joined by OR: none of them exceeds it.

@@ -16,7 +16,6 @@ use Rattle.laws.proofs.Reading.{reads-trailing, reads-invalid}
 use Rattle.laws.proofs.Progress.{CharacterAt}
 use Rattle.laws.proofs.ReadUnits.{Known, known, behind-one, behind-two, behind-three}
 use Rattle.laws.proofs.Runs.{Stands}
-use Rattle.tables.proofs.ByteLayouts.{not-excluded}
 use Rattle.tables.specs.declared.ByteForm.the-variants.{FssUtf}
 
 -- a character of so many bytes, of this value, and its last byte inside
@@ -48,8 +47,8 @@ module _ (s : List ℕ) (p : ℕ) (c : Stands fssUtf s p) where
           let m = reads-invalid fssUtf p u (drop (p + 1) s) (fssUtf-invalid u (omega arith)) in
           absurd (let z : _≡_ {A = ℕ} 0 1 = cc (m ∙ sym (c .here .is)) in omega arith)
 
-  of : (k : ℕ) → k < 6 → (rowAt (byteLayout 6 6) k) .first ≤ u → u ≤ (rowAt (byteLayout 6 6) k) .last → Known (byteLayout 6 6) refl (not-excluded FssUtf) s p k
-  of k h from to = known (byteLayout 6 6) refl (not-excluded FssUtf) s p (c .here) k h from to
+  of : (k : ℕ) → k < 6 → (rowAt (byteLayout 6 6) k) .first ≤ u → u ≤ (rowAt (byteLayout 6 6) k) .last → Known (byteLayout 6 6) refl s p k
+  of k h from to = known (byteLayout 6 6) refl s p (c .here) k h from to
 
   pub bytes-one : getD s p 0 < 0x80 → Bytes s p 0 (getD s p 0)
   bytes-one h =

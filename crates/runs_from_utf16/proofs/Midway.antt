@@ -12,10 +12,11 @@ use borrow.Author.Tests.{le-leb, lt-leb, le-ltb, lt-ltb}
 use Rattle.forms.specs.Form.{encode, span}
 use Rattle.forms.specs.Forms.{utf16, ucs4}
 use Rattle.forms.specs.Buffer.{withUnits}
-use Rattle.laws.proofs.Progress.{CharacterAt, character-onward}
+use Rattle.laws.proofs.Progress.{CharacterAt, character-value, character-onward}
 use Rattle.laws.proofs.Runs.{Run, Convertible, Stands, run-none, run-one, run-join, convertible-run, convertible-stands, convertible-character}
 use Rattle.laws.proofs.Values.{WrittenTo}
 use Rattle.laws.proofs.Spare.{Spare, spare-none, spare-over, spare-more, spare-last}
+use Rattle.laws.proofs.FourForms.{utf16-laws}
 use Rattle.laws.proofs.UnitEncodings.{ucs4-encoding}
 use Rattle.measure_runs.specs.Utf16Units.{isHigh, isLow, number, LastCharacter}
 use Rattle.measure_runs.proofs.Utf16Tests.{differ, high-bounds, low-bounds, low-not-high}
@@ -99,12 +100,12 @@ module _ {s d o : List ℕ} {at n k end : ℕ} (c : Convertible utf16 ucs4 s at 
       (next : z ≡ end + number (not (isLow (getD s (at + k) 0)))) where
     -- the character that begins with the unit
     wrote :
-        {v l : ℕ} → w .passed ≡ k → CharacterAt utf16 s (at + k) v (span (at + k) l) → x ≡ v → v < 0x80000000 → isLow (getD s (at + k) 0) ≡ false → 1 ≤ l → l ≤ 2
+        {v l : ℕ} → w .passed ≡ k → CharacterAt utf16 s (at + k) v (span (at + k) l) → x ≡ v → isLow (getD s (at + k) 0) ≡ false → 1 ≤ l → l ≤ 2
         → (l ≡ 2 → isLow (getD s (at + (k + 1)) 0) ≡ true) → Midway s at n d (k + 1) z (set o end x)
-    wrote {v} {l} e a y small f i j low =
+    wrote {v} {l} e a y f i j low =
         let a' : CharacterAt utf16 s (at + w .passed) v (span (at + k) l) = rw e a in
         let r : Run utf16 ucs4 s (at + w .passed) l (encode ucs4 v) = run-one a' (convertible-character left a') in
-        let q : encode ucs4 v ≡ x ∷ [] = ucs4-encoding v small ∙ rw y in
+        let q : encode ucs4 v ≡ x ∷ [] = ucs4-encoding v (character-value utf16-laws a) ∙ rw y in
         let t : z ≡ end + 1 = rw f at next in
         record {
           passed = w .passed + l;
@@ -144,17 +145,17 @@ module _ {s d o : List ℕ} {at n k end : ℕ} (c : Convertible utf16 ucs4 s at 
                 let f = midway-high h b in
                 let lo = low-bounds (getD s (at + k + 1) 0) f in
                 let q : at + (k + 1) ≡ at + k + 1 = omega arith in
-                wrote here (paired-at s (at + k) (getD s (at + k) 0) (getD s (at + k + 1) 0) h refl refl (hi .0) (hi .1) (lo .0) (lo .1)) (pair b) (omega (arith, hi, lo))
+                wrote here (paired-at s (at + k) (getD s (at + k) 0) (getD s (at + k + 1) 0) h refl refl (hi .0) (hi .1) (lo .0) (lo .1)) (pair b)
                 (high-not-low (getD s (at + k) 0) (hi .1)) (omega arith) (omega arith) (λ e. rw q f)
             split false b = plain (decLt (getD s (at + k) 0) 0xD800) (decLt (getD s (at + k) 0) 0xE000)
               where
                 plain : Dec (getD s (at + k) 0 < 0xD800) → Dec (getD s (at + k) 0 < 0xE000) → Midway s at n d (k + 1) z (set o end x)
                 plain (yes i) j =
-                    wrote here (alone s (at + k) (omega arith) (units (at + k)) (λ y. absurd (omega arith))) (unit b) (omega (arith, units (at + k)))
+                    wrote here (alone s (at + k) (omega arith) (units (at + k)) (λ y. absurd (omega arith))) (unit b)
                     (high-not-low (getD s (at + k) 0) (omega arith)) (omega arith) (omega arith) (λ e. absurd (omega (arith, e)))
                 plain (no i) (yes j) = differ (is-high (getD s (at + k) 0) (omega arith) (pair-stands s (at + k) (begins here (omega arith)) (omega arith) j .0)) b
                 plain (no i) (no j) =
-                    wrote here (alone s (at + k) (omega arith) (units (at + k)) (λ y. omega arith)) (unit b) (omega (arith, units (at + k)))
+                    wrote here (alone s (at + k) (omega arith) (units (at + k)) (λ y. omega arith)) (unit b)
                     (above-not-low (getD s (at + k) 0) (omega arith)) (omega arith) (omega arith) (λ e. absurd (omega (arith, e)))
 
   -- before the last character all others were written

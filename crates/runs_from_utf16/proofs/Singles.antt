@@ -12,20 +12,12 @@ use Rattle.forms.specs.Forms.{utf16, fssUtf, ucs4}
 use Rattle.forms.specs.Buffer.{withUnits}
 use Rattle.laws.proofs.Progress.{CharacterAt}
 use Rattle.laws.proofs.Runs.{Run, Convertible, Wrote, convertible-run}
-use Rattle.laws.proofs.Blocks.{AtMost}
+use Rattle.laws.proofs.Blocks.{AtMost, NoSurrogates, no-surrogates}
 use Rattle.laws.proofs.Values.{part, part-length, Encodable, Encoded, Room, singles-run, singles-encodable, singles-room, own-encodings, wrote-encoded}
-use Rattle.laws.proofs.UnitEncodings.{ucs4-encoding}
+use Rattle.laws.proofs.UnitEncodings.{ucs4-outside}
 use Rattle.encoder.proofs.FssUtf.{one-byte}
-use Rattle.measure_runs.specs.Utf16Units.{isSurrogate, NoSurrogates}
 use Rattle.measure_runs.proofs.Utf16Tests.{surrogate-false}
 use Rattle.measure_runs.proofs.Utf16Pairs.{alone}
-
--- units below the surrogates
-pub low-plain : {s : List ℕ} {at k m : ℕ} → AtMost s at k m → m < 0xD800 → NoSurrogates s at k
-low-plain {s} {at} {k} {m} a l = record { each = λ j b. below (getD s (at + j) 0) (a .each j b) }
-  where
-    below : (u : ℕ) → u ≤ m → isSurrogate u ≡ false
-    below u h = rw (lt-leb 0xD800 u (omega arith))
 
 module _
     {G : Form}
@@ -92,14 +84,14 @@ module _ {s : List ℕ} {at n m k : ℕ} (c : Convertible utf16 fssUtf s at n m)
   own j h = one-byte (getD s (at + j) 0) (omega (arith, a .each j h))
 
   pub ascii-room : n + k ≤ m
-  ascii-room = own-room c inside units (low-plain a (omega arith)) own
+  ascii-room = own-room c inside units (no-surrogates a (omega arith)) own
 
   pub ascii-wrote : {d o : List ℕ} → o ≡ withUnits d n (part s at k) → Wrote utf16 fssUtf s at k k d n o
-  ascii-wrote e = own-wrote c inside units (low-plain a (omega arith)) own e
+  ascii-wrote e = own-wrote c inside units (no-surrogates a (omega arith)) own e
 
 module _ {s : List ℕ} {at n m k : ℕ} (c : Convertible utf16 ucs4 s at n m) (inside : at + k ≤ length s) (units : (i : ℕ) → getD s i 0 < 0x10000) (p : NoSurrogates s at k) where
   value : (j : ℕ) → j < k → encode ucs4 (getD s (at + j) 0) ≡ getD s (at + j) 0 ∷ []
-  value j h = ucs4-encoding (getD s (at + j) 0) (omega (arith, units (at + j)))
+  value j h = ucs4-outside (getD s (at + j) 0) (surrogate-false (getD s (at + j) 0) (p .each j h)) (omega (arith, units (at + j)))
 
   pub widened-room : n + k ≤ m
   widened-room = own-room c inside units p value

@@ -18,7 +18,7 @@ use Rattle.laws.proofs.Progress.{CharacterAt}
 use Rattle.laws.proofs.ReadUnits.{Known, known, behind-one, behind-two, behind-three}
 use Rattle.laws.proofs.Runs.{Stands}
 use Rattle.tables.specs.declared.ByteForm.the-variants.{UtfEbcdic}
-use Rattle.tables.proofs.ByteLayouts.{passes, fits, not-excluded}
+use Rattle.tables.proofs.ByteLayouts.{passes, fits}
 use Rattle.items.proofs.Plain.{plainText, plain-length, plain-at}
 use Rattle.characters.specs.Short.{ShortAt}
 use Rattle.characters.proofs.ByteCharacters.{to-plain, from-plain}
@@ -49,13 +49,13 @@ module _ (s : List ℕ) (p : ℕ) (c : Stands utfEbcdic s p) where
           absurd (let e : Mark StrayTrailing (span p 1) ≡ Character (c .value) (c .place) = m ∙ sym (c .here .is) in let z : _≡_ {A = ℕ} 0 1 = cc in omega arith)
       go (no d) = omega arith
 
-  of : (k : ℕ) → k < 7 → (rowAt (byteLayout 5 7) k) .first ≤ u → u ≤ (rowAt (byteLayout 5 7) k) .last → Known (byteLayout 5 7) (passes UtfEbcdic) (not-excluded UtfEbcdic) t p k
+  of : (k : ℕ) → k < 7 → (rowAt (byteLayout 5 7) k) .first ≤ u → u ≤ (rowAt (byteLayout 5 7) k) .last → Known (byteLayout 5 7) (passes UtfEbcdic) t p k
   of k h from to =
       let e = plain-at UtfEbcdic s p in
-      known (byteLayout 5 7) (passes UtfEbcdic) (not-excluded UtfEbcdic) t p (to-plain UtfEbcdic s p (c .here)) k h (rw e from) (rw e to)
+      known (byteLayout 5 7) (passes UtfEbcdic) t p (to-plain UtfEbcdic s p (c .here)) k h (rw e from) (rw e to)
 
   -- what is known of the layout's text, of this one
-  bytes : (k v : ℕ) (w : Known (byteLayout 5 7) (passes UtfEbcdic) (not-excluded UtfEbcdic) t p k) → w .value ≡ v → Bytes s p k v
+  bytes : (k v : ℕ) (w : Known (byteLayout 5 7) (passes UtfEbcdic) t p k) → w .value ≡ v → Bytes s p k v
   bytes k v w e = record { inside = rw (plain-length UtfEbcdic s) at (w .inside); here = from-plain UtfEbcdic s p (rw e at (w .here)) }
 
   pub bytes-one : i8Of (getD s p 0) < 0xA0 → Bytes s p 0 (i8Of (getD s p 0))

@@ -10,6 +10,7 @@ pub enum Fault {
     Unrepresentable,
     BufferTooShort,
     OffsetOutOfRange,
+    Surrogate,
 }
 
 // Where an item stands: the offset of its first code unit, and how many code units it has.

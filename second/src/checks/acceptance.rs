@@ -2,7 +2,7 @@
 //! the other forms, is read mended, and has its starts found as well.
 
 use super::conversion::ToOthers;
-use super::{character, each_form, from_i8, mark, one_character, three_ways};
+use super::{character, each_form, from_i8, mark, one_character, one_value, three_ways};
 use crate::library::{JkItem, Linked};
 use crate::reference::{
     Form, FssUtf, Reading, Role, Ucs4, Utf16, UtfEbcdic, FSS_UTF, HIGHEST_VALUE, I8,
@@ -16,6 +16,7 @@ pub fn check(group: &mut Group) {
     other_converters(group);
     items(group);
     each_form!(carried(group));
+    surrogates(group);
     flags(group);
     free_bits(group);
     each_form!(empty(group));
@@ -36,7 +37,8 @@ fn starred(group: &mut Group) {
     three_ways::<FssUtf>(group, source, &[0xFE], &[mark(4, 1)]);
     let followed = [mark(2, 2), character(0x41, 1)];
     three_ways::<FssUtf>(group, source, &[0xE2, 0x89, 0x41], &followed);
-    one_character::<FssUtf>(group, source, 0xD800, &[0xED, 0xA0, 0x80]);
+    // Request 104: "The case ED A0 80 becomes a mark."
+    three_ways::<FssUtf>(group, source, &[0xED, 0xA0, 0x80], &[mark(10, 3)]);
 
     one_character::<UtfEbcdic>(group, source, 0xA0, &[0x47, 0x80]);
     one_character::<UtfEbcdic>(group, source, 0x400, &[0x9A, 0x80, 0x80]);
@@ -130,14 +132,12 @@ fn other_converters(group: &mut Group) {
     let short_then_pair = [mark(2, 1), character(0x1_0000, 2)];
     three_ways::<Utf16>(group, source, &[0xD800, 0xD800, 0xDC00], &short_then_pair);
 
-    // Two surrogate values stay two values.
-    let surrogates = [character(0xD800, 3), character(0xDC00, 3)];
-    three_ways::<FssUtf>(
-        group,
-        source,
-        &[0xED, 0xA0, 0x80, 0xED, 0xB0, 0x80],
-        &surrogates,
-    );
+    // "Two three-byte surrogate values are passed to UTF-16 as a pair": they are
+    // two marks.
+    let pair = [0xED, 0xA0, 0x80, 0xED, 0xB0, 0x80];
+    three_ways::<FssUtf>(group, source, &pair, &[mark(10, 3), mark(10, 3)]);
+    let pair = from_i8(&[0xF1, 0xB6, 0xA0, 0xA0, 0xF1, 0xB7, 0xA0, 0xA0]);
+    three_ways::<UtfEbcdic>(group, source, &pair, &[mark(10, 4), mark(10, 4)]);
 
     for second in 0xA0..=0xBF {
         for third in 0xA0..=0xBF {
@@ -212,8 +212,8 @@ fn items(group: &mut Group) {
     let singly = [
         character(0x41, 1),
         mark(4, 1),
-        character(0xD800, 1),
-        character(0xDC00, 1),
+        mark(10, 1),
+        mark(10, 1),
         mark(4, 1),
     ];
     three_ways::<Ucs4>(group, source, &units, &singly);
@@ -234,25 +234,67 @@ fn items(group: &mut Group) {
     );
 }
 
-/// FEFF, FFFE and FFFF are carried; so are D800 to DFFF outside UTF-16.
+/// FEFF, FFFE and FFFF are carried.
 fn carried<F: ToOthers>(group: &mut Group) {
-    let mut values = vec![0xFEFF, 0xFFFE, 0xFFFF];
-    values.extend(0xD800..=0xDFFF);
-    for value in values {
+    for value in [0xFEFF, 0xFFFE, 0xFFFF] {
         match F::encode(value) {
             Some(legal) => {
                 let units: Vec<u32> = legal.iter().map(|&unit| unit.into()).collect();
                 one_character::<F>(group, "a value that is carried", value, &units);
             }
-            None => {
-                let surrogate_in_utf16 =
-                    F::NAME == Utf16::NAME && (0xD800..=0xDFFF).contains(&value);
-                group.check(surrogate_in_utf16, || {
-                    format!("the reference has no encoding of {value:X} in {}", F::NAME)
-                });
-            }
+            None => group.check(false, || {
+                format!("the reference has no encoding of {value:X} in {}", F::NAME)
+            }),
         }
     }
+}
+
+/// Request 104, for each of its 2,048 values and the two beside them: "such a
+/// value in UCS-4, FSS-UTF or UTF-EBCDIC is a fault, one mark over its whole
+/// sequence", and "a too-long sequence for D800 stays 5". In UTF-16 the units
+/// of these numbers stay 2 and 3.
+fn surrogates(group: &mut Group) {
+    let source = "request 104";
+    for value in 0xD7FF..=0xE000_u32 {
+        let fss_utf = [
+            0xE0 + (value >> 12),
+            0x80 + ((value >> 6) & 0x3F),
+            0x80 + (value & 0x3F),
+        ];
+        one_value::<FssUtf>(group, source, value, &fss_utf);
+        let i8_bytes = [
+            0xF0 + (value >> 15),
+            0xA0 + ((value >> 10) & 0x1F),
+            0xA0 + ((value >> 5) & 0x1F),
+            0xA0 + (value & 0x1F),
+        ];
+        one_value::<UtfEbcdic>(group, source, value, &from_i8(&i8_bytes));
+        one_value::<Ucs4>(group, source, value, &[value]);
+
+        let too_long = [
+            0xF0,
+            0x80 + (value >> 12),
+            0x80 + ((value >> 6) & 0x3F),
+            0x80 + (value & 0x3F),
+        ];
+        three_ways::<FssUtf>(group, source, &too_long, &[mark(5, 4)]);
+        let too_long = [&[0xF8, 0xA0 + (value >> 15)], &i8_bytes[1..]].concat();
+        three_ways::<UtfEbcdic>(group, source, &from_i8(&too_long), &[mark(5, 5)]);
+    }
+    for high in 0xD800..=0xDBFF {
+        three_ways::<Utf16>(group, source, &[high], &[mark(2, 1)]);
+    }
+    for low in 0xDC00..=0xDFFF {
+        three_ways::<Utf16>(group, source, &[low], &[mark(3, 1)]);
+    }
+
+    // The mark costs no neighbour, and a cut sequence is cut, not a surrogate.
+    let between = [character(0x41, 1), mark(10, 3), character(0x42, 1)];
+    three_ways::<FssUtf>(group, source, &[0x41, 0xED, 0xBF, 0xBF, 0x42], &between);
+    let cut = [mark(2, 2), character(0x42, 1)];
+    three_ways::<FssUtf>(group, source, &[0xED, 0xA0, 0x42], &cut);
+    let trailing = [mark(10, 3), mark(3, 1)];
+    three_ways::<FssUtf>(group, source, &[0xED, 0xA0, 0x80, 0x80], &trailing);
 }
 
 /// Document 01's flag of a UTF-EBCDIC byte, by the words of its rule.

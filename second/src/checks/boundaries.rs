@@ -2,10 +2,10 @@
 //! between neighbours.
 
 use super::conversion::ToOthers;
-use super::{each_form, one_character};
+use super::{each_form, one_value};
 use crate::library::{JkItem, Linked};
 use crate::reference::{
-    exchanged, Content, Form, FssUtf, Item, Layout, Reading, UtfEbcdic, FSS_UTF, HIGHEST_VALUE, I8,
+    exchanged, is_surrogate, Content, Form, FssUtf, Item, Layout, Reading, UtfEbcdic, FSS_UTF, HIGHEST_VALUE, I8,
     I8_TO_UTF_EBCDIC,
 };
 use crate::report::Group;
@@ -63,28 +63,31 @@ fn neighbours<F: Linked>() -> Vec<F::Unit> {
 
 fn whole_and_cut<F: ToOthers>(group: &mut Group) {
     for value in boundary_values() {
-        let Some(legal) = F::encode(value) else {
+        let Some(sequence) = F::shortest(value) else {
             continue;
         };
-        let units: Vec<u32> = legal.iter().map(|&unit| unit.into()).collect();
-        one_character::<F>(group, "boundary value", value, &units);
-        group.agree_everywhere::<F>(&legal, "boundary value");
+        let units: Vec<u32> = sequence.iter().map(|&unit| unit.into()).collect();
+        one_value::<F>(group, "boundary value", value, &units);
+        group.agree_everywhere::<F>(&sequence, "boundary value");
 
         // The units beyond the end complete the sequence, but are not lent.
-        for length in 1..legal.len() {
-            let cut = &legal[..length];
+        for length in 1..sequence.len() {
+            let cut = &sequence[..length];
             let answer = told(0, length, Content::Mark(2));
             group.answer::<F>(cut, 0, answer, "boundary value cut short");
             group.agree_everywhere::<F>(cut, "boundary value cut short");
         }
 
-        let content = Content::Character(value);
+        let content = match is_surrogate(value) {
+            true => Content::Mark(10),
+            false => Content::Character(value),
+        };
         for before in neighbours::<F>() {
             for after in neighbours::<F>() {
                 let mut text = vec![before];
-                text.extend_from_slice(&legal);
+                text.extend_from_slice(&sequence);
                 text.push(after);
-                let answer = told(1, legal.len(), content);
+                let answer = told(1, sequence.len(), content);
                 group.answer::<F>(&text, 1, answer, "boundary value between neighbours");
                 group.agree_everywhere::<F>(&text, "boundary value between neighbours");
             }
@@ -99,7 +102,7 @@ fn overlong<F: Linked<Unit = u8>>(
     to_form: fn(&[u8]) -> Vec<u8>,
 ) {
     for value in boundary_values() {
-        let shortest = F::encode(value).map_or(0, |legal| legal.len());
+        let shortest = F::shortest(value).map_or(0, |shortest| shortest.len());
         for row in layout.rows.iter().filter(|row| row.length > shortest) {
             let Some(bytes) = layout.spell(row, value) else {
                 continue;

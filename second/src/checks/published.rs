@@ -6,11 +6,11 @@
 
 use super::acceptance::flag;
 use super::conversion::ToOthers;
-use super::{character, from_i8, mark, one_character, three_ways};
+use super::{character, from_i8, mark, one_character, one_value, three_ways};
 use crate::library::{Linked, CHARACTER};
 use crate::random::{Drawn, Random};
 use crate::reference::{
-    Form, FssUtf, Role, Utf16, UtfEbcdic, FSS_UTF, I8, I8_TO_UTF_EBCDIC, UTF_EBCDIC_TO_I8,
+    is_surrogate, Form, FssUtf, Role, Utf16, UtfEbcdic, FSS_UTF, I8, I8_TO_UTF_EBCDIC, UTF_EBCDIC_TO_I8,
 };
 use crate::report::{hex, Group};
 
@@ -98,7 +98,7 @@ fn fss_utf_tables(group: &mut Group) {
     for (low, high, pattern) in FSS_UTF_PATTERNS {
         for value in samples(low, high) {
             let bytes = fill(pattern, value);
-            one_character::<FssUtf>(group, source, value, &bytes);
+            one_value::<FssUtf>(group, source, value, &bytes);
             // 000, 2.1: ASCII bytes stand for ASCII characters and nothing else.
             let ascii = bytes.iter().any(|&byte| byte <= 0x7F);
             group.check(ascii == (value <= 0x7F), || {
@@ -214,12 +214,12 @@ fn wctomb(value: u32) -> Option<Vec<u32>> {
     Some(bytes)
 }
 
-/// The sample code takes and refuses the same sequences as document 01, and
-/// differs only in naming no fault.
+/// The sample code takes and refuses the same sequences as document 01, but for
+/// the surrogates of request 104, and names no fault.
 fn fss_utf_sample_code(group: &mut Group) {
     let source = "sample code of 000 and 004";
     let mut same = |text: &[u8]| {
-        let sample = mbtowc(text);
+        let sample = mbtowc(text).filter(|&(value, _)| !is_surrogate(value));
         let item = FssUtf::item_at(text, 0);
         let read = (item.kind == CHARACTER).then_some((item.value, item.length as usize));
         group.check(sample == read, || {
@@ -276,6 +276,13 @@ fn manual_page(group: &mut Group) {
         });
     }
 
+    // "The UCS code values 0xd800-0xdfff (UTF-16 surrogates) ... should not
+    // appear in conforming UTF-8 streams": request 104 goes by it.
+    for value in 0xD7FE..=0xE001 {
+        let bytes = fill("1110vvvv 10vvvvvv 10vvvvvv", value);
+        one_value::<FssUtf>(group, source, value, &bytes);
+    }
+
     // "the Unicode standard specifies no characters above 0x10ffff", in four
     // bytes; document 01 carries those above as well.
     one_character::<FssUtf>(group, source, 0x10_FFFF, &[0xF4, 0x8F, 0xBF, 0xBF]);
@@ -325,7 +332,7 @@ fn report_table_1(group: &mut Group) {
         for value in samples(low, high) {
             // The free bits of 100xxxxx are the value's low five.
             let filled = if low == 0x80 { value - 0x80 } else { value };
-            one_character::<UtfEbcdic>(group, source, value, &from_i8(&fill(pattern, filled)));
+            one_value::<UtfEbcdic>(group, source, value, &from_i8(&fill(pattern, filled)));
         }
     }
     for (low, high) in [(0x1_0000, 0x3_FFFF), (0x4_0000, 0x10_FFFF)] {
@@ -388,10 +395,11 @@ fn report_text(group: &mut Group) {
     group.check(length == Some(4), || {
         format!("{source}: FFFF has {length:?} bytes")
     });
-    // Surrogates treated as any other characters, four bytes each.
+    // Surrogates treated as any other characters, four bytes each: request 104
+    // makes each of them a mark of four bytes.
     for surrogate in [0xD800, 0xDBFF, 0xDC00, 0xDFFF] {
         let bytes = fill("1111000w 101zzzzz 101yyyyy 101xxxxx", surrogate);
-        one_character::<UtfEbcdic>(group, source, surrogate, &from_i8(&bytes));
+        three_ways::<UtfEbcdic>(group, source, &from_i8(&bytes), &[mark(10, 4)]);
     }
 }
 

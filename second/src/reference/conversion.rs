@@ -13,7 +13,7 @@ pub struct Refusal {
 pub type Converted<G> = Result<Vec<<G as Form>::Unit>, Refusal>;
 
 /// A text in another form: fault 1 first, then the first item that is a mark
-/// or whose value the target cannot hold.
+/// or a character that the target cannot hold.
 pub fn convert<F: Form, G: Form>(text: &[F::Unit]) -> Converted<G> {
     if text.len() > LONGEST_TEXT {
         return Err(Refusal {

@@ -1,9 +1,9 @@
-use Prim.Native.Nat.{ℕ, _<_}
+use Prim.Native.Nat.{ℕ, _+_, _≤_, _<_}
 use mathlib.Core.Path.{_≡_, refl}
 use mathlib.Core.Logic.{_⊎_, inl, inr, ⊎-elim}
 use native.Mathlib.Omega.{arith}
 use Rattle.types.specs.declared.Fault.{Fault}
-use Rattle.types.specs.declared.Fault.the-variants.{SourceTooLong, MissingTrailing, StrayTrailing, InvalidUnit, Overlong, Unrepresentable, BufferTooShort, OffsetOutOfRange}
+use Rattle.types.specs.declared.Fault.the-variants.{SourceTooLong, MissingTrailing, StrayTrailing, InvalidUnit, Overlong, Unrepresentable, BufferTooShort, OffsetOutOfRange, Surrogate}
 use Rattle.forms.specs.Fault.{numberOf}
 use borrow.Author.Needs.{needs}
 use Rattle.answers.proofs.number.Statement.{statement}
@@ -11,7 +11,7 @@ use Rattle.answers.proofs.number.Tie as tie
 
 -- a fault and its count
 abbrev Counts : Fault → ℕ → Type 0
-Counts f n = ((n < 8) × (n ≡ numberOf f)) ⊎ ((n ≡ 8) × (9 ≡ numberOf f))
+Counts f n = ((n < 8) × (n ≡ numberOf f)) ⊎ ((8 ≤ n) × (n ≤ 9) × (n + 1 ≡ numberOf f))
 
 counts : {f : Fault} {n m : ℕ} (g : Fault) → f ≡ g → n ≡ m → Counts g m → Counts f n
 counts g p q c = rw (p, q) c
@@ -25,7 +25,8 @@ told c =
     (⊎-elim (λ w. counts Overlong (w .1 .given .1) (w .2) (inl (omega arith, refl)))
     (⊎-elim (λ w. counts Unrepresentable (w .1 .given .1) (w .2) (inl (omega arith, refl)))
     (⊎-elim (λ w. counts BufferTooShort (w .1 .given .1) (w .2) (inl (omega arith, refl)))
-    (λ w. counts OffsetOutOfRange (w .1 .given .1) (w .2) (inr (refl, refl)))))))))
+    (⊎-elim (λ w. counts OffsetOutOfRange (w .1 .given .1) (w .2) (inr (omega arith, omega arith, refl)))
+    (λ w. counts Surrogate (w .1 .given .1) (w .2) (inr (omega arith, omega arith, refl))))))))))
     (c .match .came)
 
 enum-told : tie.Need-enum-told
@@ -52,14 +53,17 @@ enum-told-7 c = search needs
 enum-told-8 : tie.Need-enum-told-8
 enum-told-8 c = search needs
 
+enum-told-9 : tie.Need-enum-told-9
+enum-told-9 c = search needs
+
 add-result : tie.Need-add-result
-add-result c = ⊎-elim (λ w. omega (arith, w .0)) (λ w. omega (arith, w .0)) (told (c .before))
+add-result c = ⊎-elim (λ w. omega (arith, w .0)) (λ w. omega (arith, w .1)) (told (c .before))
 
 add-result-2 : tie.Need-add-result-2
-add-result-2 c = ⊎-elim (λ w. omega (arith, w .0)) (λ w. omega (arith, w .0)) (told (c .before))
+add-result-2 c = ⊎-elim (λ w. omega (arith, w .0)) (λ w. omega (arith, w .1)) (told (c .before))
 
 returns : tie.Need-returns
-returns c = ⊎-elim (λ w. omega (arith, w .0, w .1)) (λ w. omega (arith, w .0, w .1)) (told (c .before))
+returns c = ⊎-elim (λ w. omega (arith, w .0, w .1)) (λ w. omega (arith, w .0, w .1, w .2)) (told (c .before))
 
 pub number-spec : {M : Type 1} → statement M
 number-spec =
@@ -73,6 +77,7 @@ number-spec =
     enum-told-6
     enum-told-7
     enum-told-8
+    enum-told-9
     add-result
     add-result-2
     returns)

@@ -2,6 +2,8 @@ use borrow.Author.Needs.{needs}
 use mathlib.Core.Path.{ap, sym}
 use lib.ListN.{length}
 use Rattle.laws.proofs.UnitEncodings.{ucs4-encoding}
+use Rattle.tables.specs.declared.ByteForm.the-variants.{FssUtf, UtfEbcdic}
+use Rattle.tables.proofs.ByteLayouts.{carries-character}
 use Rattle.encoder.proofs.encoded_length.Statement.{statement}
 use Rattle.encoder.proofs.encoded_length.Tie as tie
 
@@ -9,19 +11,19 @@ enum-told : tie.Need-enum-told
 enum-told c = search needs
 
 encoded-length-requires : tie.Need-encoded-length-requires
-encoded-length-requires c κs = search needs
+encoded-length-requires c κs = let s = c .before .before in carries-character FssUtf (s .args .value) (s .pre)
 
 enum-told-2 : tie.Need-enum-told-2
 enum-told-2 c = search needs
 
 encoded-length-requires-2 : tie.Need-encoded-length-requires-2
-encoded-length-requires-2 c κs = search needs
+encoded-length-requires-2 c κs = let s = c .before .before in carries-character UtfEbcdic (s .args .value) (s .pre)
 
 enum-told-3 : tie.Need-enum-told-3
 enum-told-3 c = search needs
 
 encoded-length-requires-3 : tie.Need-encoded-length-requires-3
-encoded-length-requires-3 c κs = search needs
+encoded-length-requires-3 c κs = c .before .before .pre
 
 enum-told-4 : tie.Need-enum-told-4
 enum-told-4 c = search needs
@@ -36,7 +38,7 @@ returns-3 : tie.Need-returns-3
 returns-3 c = rw (c .before .enum-told3 .given .1) (c .encoded-length3 .ensures)
 
 returns-4 : tie.Need-returns-4
-returns-4 c = rw (c .enum-told4 .given .1) (sym (ap length (ucs4-encoding _ (c .before .before .pre))))
+returns-4 c = let s = c .before .before in rw (c .enum-told4 .given .1) (sym (ap length (ucs4-encoding (s .args .value) (s .pre))))
 
 pub encoded-length-spec : {M : Type 1} → statement M
 encoded-length-spec =

@@ -8,7 +8,7 @@ use Rattle.lines.specs.Numerals.{decimal}
 use Rattle.lines.specs.Line.{Adds}
 use Rattle.lines.proofs.Appending.{adds-then, adds-whole}
 use Rattle.lines.proofs.Digits.{hex-length}
-use Rattle.lines.proofs.Lines.{placing, line-of, four-digits, one-digit, number-small}
+use Rattle.lines.proofs.Lines.{placing, line-of, four-digits, one-digit, two-digits, number-small}
 use borrow.Author.Needs.{needs}
 use Rattle.lines.proofs.item_line.Statement.{statement}
 use Rattle.lines.proofs.item_line.Tie as tie
@@ -35,8 +35,8 @@ placed c =
 placed-length : (c : tie.After-push2) → c .push2 .result .length ≤ 7
 placed-length c = omega (arith, offset-digits (c .before .before .before .before .before), length-digits (c .before .before .before .before .before))
 
-number-digits : (c : tie.After-number) → length (decimal (c .number .result)) ≤ 1
-number-digits c = one-digit (c .number .result) (rw (c .number .ensures) (number-small (c .before .before .before .before .item2 .given .0 .0)))
+number-digits : (c : tie.After-number) → length (decimal (c .number .result)) ≤ 2
+number-digits c = two-digits (c .number .result) (rw (c .number .ensures) (number-small (c .before .before .before .before .item2 .given .0 .0)))
 
 span-requires : tie.Need-span-requires
 span-requires c κs = search needs

@@ -52,6 +52,12 @@ fn marked_bytes(layout: &Layout, to_form: fn(&[u8]) -> Vec<u8>) -> Vec<Faulty<u8
             marked.push(faulty(to_form(&bytes), 5));
         }
     }
+    for surrogate in SURROGATES {
+        let row = layout.rows.iter().find(|row| surrogate <= row.highest);
+        let bytes = row.and_then(|row| layout.spell(row, surrogate));
+        let bytes = bytes.expect("a row for it");
+        marked.push(faulty(to_form(&bytes), 10));
+    }
     marked
 }
 
@@ -82,16 +88,17 @@ impl Marked for Utf16 {
 
 impl Marked for Ucs4 {
     fn marked() -> Vec<Faulty<u32>> {
-        vec![faulty(vec![0x8000_0000], 4), faulty(vec![0xFFFF_FFFF], 4)]
+        let mut marked = vec![faulty(vec![0x8000_0000], 4), faulty(vec![0xFFFF_FFFF], 4)];
+        marked.extend(SURROGATES.map(|surrogate| faulty(vec![surrogate], 10)));
+        marked
     }
 }
 
-/// Values that UTF-16 cannot hold.
-const NOT_IN_UTF_16: [u32; 9] = [
-    0xD800,
-    0xDBFF,
-    0xDC00,
-    0xDFFF,
+/// Values that are no characters.
+const SURROGATES: [u32; 4] = [0xD800, 0xDBFF, 0xDC00, 0xDFFF];
+
+/// Characters that UTF-16 cannot hold.
+const NOT_IN_UTF_16: [u32; 5] = [
     0x11_0000,
     0x1F_FFFF,
     0x20_0000,
@@ -99,7 +106,7 @@ const NOT_IN_UTF_16: [u32; 9] = [
     0x7FFF_FFFF,
 ];
 
-/// The faulty items of a pair: the form's marks, and values that the target
+/// The faulty items of a pair: the form's marks, and characters that the target
 /// cannot hold.
 fn faulty_items<F: Marked, G: Form>() -> Vec<Faulty<F::Unit>> {
     let mut items = F::marked();
@@ -171,16 +178,16 @@ fn two_faults<F: Marked + LinkedTo<G> + Drawn, G: LinkedTo<F>>(group: &mut Group
     }
 }
 
-/// At one place 5 is tried before 6: a sequence longer than its value needs,
-/// of a value that UTF-16 cannot hold.
+/// At one place 5 is tried before 10 and 6: a sequence longer than its value
+/// needs, of a surrogate or of a character that UTF-16 cannot hold.
 fn too_long_and_not_held<F>(group: &mut Group, layout: &Layout, to_form: fn(&[u8]) -> Vec<u8>)
 where
     F: LinkedTo<Utf16> + Drawn<Unit = u8>,
     Utf16: LinkedTo<F>,
 {
     let before = good::<F>(&HELD[..3]);
-    for value in NOT_IN_UTF_16 {
-        let shortest = good::<F>(&[value]).len();
+    for value in SURROGATES.into_iter().chain(NOT_IN_UTF_16) {
+        let shortest = F::shortest(value).expect("a sequence of it").len();
         for row in layout.rows.iter().filter(|row| row.length > shortest) {
             let spelled = layout.spell(row, value).expect("a value below the row's");
             let text = [&before[..], &to_form(&spelled)].concat();
@@ -214,13 +221,13 @@ fn far_places<F: Marked + LinkedTo<G> + Drawn, G: LinkedTo<F>>(group: &mut Group
 
     let tried: Vec<u32> = items.iter().map(|item| item.fault).collect();
     let can_be: &[u32] = match (F::NAME, G::NAME) {
-        (FssUtf::NAME, Utf16::NAME) => &[2, 3, 4, 5, 6],
-        (FssUtf::NAME, _) => &[2, 3, 4, 5],
-        (UtfEbcdic::NAME, Utf16::NAME) => &[2, 3, 5, 6],
-        (UtfEbcdic::NAME, _) => &[2, 3, 5],
+        (FssUtf::NAME, Utf16::NAME) => &[2, 3, 4, 5, 6, 10],
+        (FssUtf::NAME, _) => &[2, 3, 4, 5, 10],
+        (UtfEbcdic::NAME, Utf16::NAME) => &[2, 3, 5, 6, 10],
+        (UtfEbcdic::NAME, _) => &[2, 3, 5, 10],
         (Utf16::NAME, _) => &[2, 3],
-        (_, Utf16::NAME) => &[4, 6],
-        _ => &[4],
+        (_, Utf16::NAME) => &[4, 6, 10],
+        _ => &[4, 10],
     };
     group.check(tried == can_be, || {
         format!("{} to {}: faults {tried:?} were tried", F::NAME, G::NAME)

@@ -1,7 +1,7 @@
 //! What document 01 says of conversion, point by point.
 
 use super::{each_pair, three_ways, ToOthers};
-use crate::checks::{character, each_form, from_i8, mark, Told};
+use crate::checks::{each_form, from_i8};
 use crate::library::LinkedTo;
 use crate::random::Drawn;
 use crate::reference::{Converted, Form, FssUtf, Refusal, Ucs4, Utf16, UtfEbcdic};
@@ -17,7 +17,7 @@ type Spelled = (
 
 /// The acceptance points, the lowest and highest value of each length in each
 /// form, and the values beside the surrogates.
-const SPELLED: [Spelled; 35] = [
+const SPELLED: [Spelled; 31] = [
     ("0", "00", "00", Some("0000")),
     ("41", "41", "41", Some("0041")),
     ("7F", "7F", "7F", Some("007F")),
@@ -33,10 +33,6 @@ const SPELLED: [Spelled; 35] = [
     ("3FFF", "E3 BF BF", "EF BF BF", Some("3FFF")),
     ("4000", "E4 80 80", "F0 B0 A0 A0", Some("4000")),
     ("D7FF", "ED 9F BF", "F1 B5 BF BF", Some("D7FF")),
-    ("D800", "ED A0 80", "F1 B6 A0 A0", None),
-    ("DBFF", "ED AF BF", "F1 B6 BF BF", None),
-    ("DC00", "ED B0 80", "F1 B7 A0 A0", None),
-    ("DFFF", "ED BF BF", "F1 B7 BF BF", None),
     ("E000", "EE 80 80", "F1 B8 A0 A0", Some("E000")),
     ("FEFF", "EF BB BF", "F1 BF B7 BF", Some("FEFF")),
     ("FFFE", "EF BF BE", "F1 BF BF BE", Some("FFFE")),
@@ -178,13 +174,6 @@ fn starred(group: &mut Group) {
     gives::<Ucs4, UtfEbcdic>(group, source, &[0x7FFF_FFFF], Ok(&exchanged));
     gives::<Ucs4, Utf16>(group, source, &[0x7FFF_FFFF], Err((6, 0)));
 
-    // "ED A0 80 is D800; to UTF-16, fault 6 at 0."
-    let bytes = [0xED, 0xA0, 0x80];
-    gives::<FssUtf, Utf16>(group, source, &bytes, Err((6, 0)));
-    gives::<FssUtf, Ucs4>(group, source, &bytes, Ok(&[0xD800]));
-    let exchanged = [0xB3, 0xDD, 0x80, 0x80];
-    gives::<FssUtf, UtfEbcdic>(group, source, &bytes, Ok(&exchanged));
-
     let utf_ebcdic: [(&[u32], &[u32], u32); 4] = [
         (&[0x47, 0x80], &[0xC2, 0xA0], 0xA0),
         (&[0x9A, 0x80, 0x80], &[0xD0, 0x80], 0x400),
@@ -256,60 +245,75 @@ fn refused(group: &mut Group) {
     }
 }
 
-/// "Two three-byte surrogate values are passed to UTF-16 as a pair": they are
-/// fault 6, in whichever order, and stay two values in the other forms.
+/// Request 104: "such a value in UCS-4, FSS-UTF or UTF-EBCDIC is a fault",
+/// whatever the target, and "fault 6 is left with values above 10FFFF". Two of
+/// them are no pair, in whichever order.
 fn surrogates(group: &mut Group) {
-    let source = "error of other converters";
-    let bytes = [0xED, 0xA0, 0x80, 0xED, 0xB0, 0x80];
-    let exchanged = from_i8(&[0xF1, 0xB6, 0xA0, 0xA0, 0xF1, 0xB7, 0xA0, 0xA0]);
-    let values = [0xD800, 0xDC00];
-    gives::<FssUtf, Utf16>(group, source, &bytes, Err((6, 0)));
-    gives::<FssUtf, UtfEbcdic>(group, source, &bytes, Ok(&exchanged));
-    gives::<FssUtf, Ucs4>(group, source, &bytes, Ok(&values));
-    gives::<UtfEbcdic, Utf16>(group, source, &exchanged, Err((6, 0)));
-    gives::<UtfEbcdic, FssUtf>(group, source, &exchanged, Ok(&bytes));
-    gives::<UtfEbcdic, Ucs4>(group, source, &exchanged, Ok(&values));
-    gives::<Ucs4, Utf16>(group, source, &values, Err((6, 0)));
-    gives::<Ucs4, FssUtf>(group, source, &values, Ok(&bytes));
-    gives::<Ucs4, UtfEbcdic>(group, source, &values, Ok(&exchanged));
-
-    let surrogates = [
-        0xD800, 0xD801, 0xDBFE, 0xDBFF, 0xDC00, 0xDC01, 0xDFFE, 0xDFFF,
+    let spelled = [
+        (0xD800, [0xED, 0xA0, 0x80], [0xF1, 0xB6, 0xA0, 0xA0]),
+        (0xD801, [0xED, 0xA0, 0x81], [0xF1, 0xB6, 0xA0, 0xA1]),
+        (0xDBFF, [0xED, 0xAF, 0xBF], [0xF1, 0xB6, 0xBF, 0xBF]),
+        (0xDC00, [0xED, 0xB0, 0x80], [0xF1, 0xB7, 0xA0, 0xA0]),
+        (0xDFFE, [0xED, 0xBF, 0xBE], [0xF1, 0xB7, 0xBF, 0xBE]),
+        (0xDFFF, [0xED, 0xBF, 0xBF], [0xF1, 0xB7, 0xBF, 0xBF]),
     ];
-    for first in surrogates {
-        for second in surrogates {
-            each_way::<FssUtf>(group, source, &[first, second]);
-            each_way::<UtfEbcdic>(group, source, &[first, second]);
-            each_way::<Ucs4>(group, source, &[first, second]);
-            each_way::<FssUtf>(group, source, &[0x41, first, second, 0x41]);
-            each_way::<UtfEbcdic>(group, source, &[0xA9, first, second, 0xA9]);
-            each_way::<Ucs4>(group, source, &[0x1_0000, first, second, 0x1_0000]);
+    for (value, fss_utf, i8_bytes) in spelled {
+        let utf_ebcdic = from_i8(&i8_bytes);
+        refused_everywhere(group, &[value], &fss_utf, &utf_ebcdic, (0, 0, 0));
+        for (other, other_fss_utf, other_i8_bytes) in spelled {
+            let bytes = [fss_utf, other_fss_utf].concat();
+            let exchanged = from_i8(&[i8_bytes, other_i8_bytes].concat());
+            refused_everywhere(group, &[value, other], &bytes, &exchanged, (0, 0, 0));
         }
+        // Behind 10000, and before it and a value that UTF-16 cannot hold.
+        let bytes = [
+            &[0xF0, 0x90, 0x80, 0x80][..],
+            &fss_utf,
+            &[0xF0, 0x90, 0x80, 0x80, 0xF4, 0x90, 0x80, 0x80],
+        ];
+        let exchanged = [
+            &[0xF2, 0xA0, 0xA0, 0xA0][..],
+            &i8_bytes,
+            &[0xF2, 0xA0, 0xA0, 0xA0, 0xF9, 0xA2, 0xA0, 0xA0, 0xA0],
+        ];
+        refused_everywhere(
+            group,
+            &[0x1_0000, value, 0x1_0000, 0x11_0000],
+            &bytes.concat(),
+            &from_i8(&exchanged.concat()),
+            (1, 4, 4),
+        );
     }
+
+    // A value that UTF-16 cannot hold comes first where it stands first.
+    gives::<Ucs4, Utf16>(group, "request 104", &[0x11_0000, 0xD800], Err((6, 0)));
+    gives::<Ucs4, Utf16>(group, "request 104", &[0xD800, 0x11_0000], Err((10, 0)));
+    // "a too-long sequence for D800 stays 5."
+    let too_long = [0xF0, 0x8D, 0xA0, 0x80];
+    gives::<FssUtf, Utf16>(group, "request 104", &too_long, Err((5, 0)));
+    gives::<FssUtf, UtfEbcdic>(group, "request 104", &too_long, Err((5, 0)));
+    gives::<FssUtf, Ucs4>(group, "request 104", &too_long, Err((5, 0)));
 }
 
-/// Characters written in one form, to the three others.
-fn each_way<F: ToOthers>(group: &mut Group, source: &str, values: &[u32]) {
-    let mut text = Vec::new();
-    let mut told: Vec<Told> = Vec::new();
-    for &value in values {
-        match F::encode(value) {
-            Some(legal) => {
-                text.extend_from_slice(&legal);
-                told.push(character(value, legal.len()));
-            }
-            None => group.check(false, || {
-                format!("{source}: no encoding of {value:X} in {}", F::NAME)
-            }),
-        }
-    }
-    F::to_others(group, &source, &text, &told);
-    // The same, cut within its last character.
-    if let Some(&(_, length)) = told.last().filter(|(_, length)| *length > 1) {
-        let last = told.len() - 1;
-        told[last] = mark(2, length - 1);
-        F::to_others(group, &source, &text[..text.len() - 1], &told);
-    }
+/// The same values in UCS-4, FSS-UTF and UTF-EBCDIC are refused by 10, at these
+/// places.
+fn refused_everywhere(
+    group: &mut Group,
+    values: &[u32],
+    fss_utf: &[u32],
+    utf_ebcdic: &[u32],
+    (in_ucs4, in_fss_utf, in_utf_ebcdic): (usize, usize, usize),
+) {
+    let source = "request 104";
+    gives::<Ucs4, FssUtf>(group, source, values, Err((10, in_ucs4)));
+    gives::<Ucs4, UtfEbcdic>(group, source, values, Err((10, in_ucs4)));
+    gives::<Ucs4, Utf16>(group, source, values, Err((10, in_ucs4)));
+    gives::<FssUtf, Ucs4>(group, source, fss_utf, Err((10, in_fss_utf)));
+    gives::<FssUtf, UtfEbcdic>(group, source, fss_utf, Err((10, in_fss_utf)));
+    gives::<FssUtf, Utf16>(group, source, fss_utf, Err((10, in_fss_utf)));
+    gives::<UtfEbcdic, Ucs4>(group, source, utf_ebcdic, Err((10, in_utf_ebcdic)));
+    gives::<UtfEbcdic, FssUtf>(group, source, utf_ebcdic, Err((10, in_utf_ebcdic)));
+    gives::<UtfEbcdic, Utf16>(group, source, utf_ebcdic, Err((10, in_utf_ebcdic)));
 }
 
 /// "The empty text converts to the empty text."

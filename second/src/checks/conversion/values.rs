@@ -28,16 +28,16 @@ pub fn check(group: &mut Group) {
 fn bounds<F: LinkedTo<G> + Drawn, G: LinkedTo<F>>(group: &mut Group) {
     let values = boundary_values();
     for &value in &values {
-        let Some(legal) = F::encode(value) else {
+        let Some(sequence) = F::shortest(value) else {
             continue;
         };
-        agree::<F, G>(group, "boundary value", &legal);
-        for length in 1..legal.len() {
-            agree::<F, G>(group, "boundary value cut short", &legal[..length]);
+        agree::<F, G>(group, "boundary value", &sequence);
+        for length in 1..sequence.len() {
+            agree::<F, G>(group, "boundary value cut short", &sequence[..length]);
         }
         for &other in &values {
-            if let Some(other) = F::encode(other) {
-                let text = [&legal[..], &other].concat();
+            if let Some(other) = F::shortest(other) {
+                let text = [&sequence[..], &other].concat();
                 agree::<F, G>(group, "two boundary values", &text);
             }
         }

@@ -40,8 +40,8 @@ const FURTHER: [[u32; 9]; 2] = [
         0x1F_FFFF,
         0x7FFF_FFFF,
         0x42,
-        0xD800,
-        0xDC00,
+        0xD7FF,
+        0xE000,
         0x3FFF,
     ],
 ];

@@ -1,4 +1,4 @@
-use mathlib.Core.Path.{refl}
+use mathlib.Core.Path.{refl, sym, _∙_}
 use borrow.Author.Needs.{needs}
 use Rattle.characters.proofs.Shorts.{none-there, three-bytes}
 use Rattle.characters.proofs.fss_utf.three_at.Statement.{statement}
@@ -49,8 +49,17 @@ add-value-2 c = search needs
 returns-2 : tie.Need-returns-2
 returns-2 c = none-there
 
+is-surrogate-requires : tie.Need-is-surrogate-requires
+is-surrogate-requires c κs = search needs
+
 returns-3 : tie.Need-returns-3
-returns-3 c = three-bytes (c .before .before .before .before .before .before .before .before .before .pre) (c .before .wide .ensures) (c .before .before .before .before .before .before .free-bits .ensures) (c .before .before .before .before .free-bits2 .ensures) (c .before .before .before .if1 .left) refl (c .if2 .left)
+returns-3 c = none-there
+
+returns-4 : tie.Need-returns-4
+returns-4 c =
+    let e = c .before .before in
+    three-bytes (e .before .before .before .before .before .before .before .before .before .pre) (e .before .wide .ensures) (e .before .before .before .before .before .before .free-bits .ensures)
+    (e .before .before .before .before .free-bits2 .ensures) (e .before .before .before .if1 .left) refl (e .if2 .left) (rw (sym (c .before .is-surrogate .ensures) ∙ c .if3 .left))
 
 pub three-at-spec : {M : Type 1} → statement M
 three-at-spec =
@@ -71,4 +80,6 @@ three-at-spec =
     mul-value-2
     add-value-2
     returns-2
-    returns-3)
+    is-surrogate-requires
+    returns-3
+    returns-4)

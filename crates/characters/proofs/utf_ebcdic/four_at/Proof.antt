@@ -1,3 +1,4 @@
+use mathlib.Core.Path.{sym, _∙_}
 use native.Mathlib.Omega.{arith}
 use denote.Ref.{now}
 use Rattle.tables.specs.declared.ByteForm.the-variants.{UtfEbcdic}
@@ -64,8 +65,19 @@ add-value-3 c = search needs
 returns-2 : tie.Need-returns-2
 returns-2 c = none-there
 
+is-surrogate-requires : tie.Need-is-surrogate-requires
+is-surrogate-requires c κs = search needs
+
 returns-3 : tie.Need-returns-3
-returns-3 c = let z = c .before .before .before .before .before .before .before .before .before .before in four-bytes UtfEbcdic (now (z .args .text)) (z .args .at) (omega arith) (z .pre .1) (c .before .before .before .before .before .before .before .free-bits .ensures) (c .before .before .before .before .before .free-bits2 .ensures) (c .before .before .before .free-bits3 .ensures) (c .before .before .if1 .left) (rw (c .before .wide .ensures, z .pre .2)) (c .if2 .left)
+returns-3 c = none-there
+
+returns-4 : tie.Need-returns-4
+returns-4 c =
+    let e = c .before .before in
+    let z = e .before .before .before .before .before .before .before .before .before .before in
+    four-bytes UtfEbcdic (now (z .args .text)) (z .args .at) (omega arith) (z .pre .1) (e .before .before .before .before .before .before .before .free-bits .ensures)
+    (e .before .before .before .before .before .free-bits2 .ensures) (e .before .before .before .free-bits3 .ensures) (e .before .before .if1 .left) (rw (e .before .wide .ensures, z .pre .2)) (e .if2 .left)
+    (rw (sym (c .before .is-surrogate .ensures) ∙ c .if3 .left))
 
 pub four-at-spec : {M : Type 1} → statement M
 four-at-spec =
@@ -90,4 +102,6 @@ four-at-spec =
     mul-value-3
     add-value-3
     returns-2
-    returns-3)
+    is-surrogate-requires
+    returns-3
+    returns-4)

@@ -2,6 +2,7 @@ use native.Mathlib.Omega.{arith}
 use denote.Ref.{now}
 use Rattle.tables.specs.declared.ByteForm.the-variants.{UtfEbcdic}
 use Rattle.characters.proofs.Shorts.{none-there}
+use Rattle.laws.proofs.Carried.{free-below}
 use Rattle.characters.proofs.ByteCharacters.{one-byte}
 use borrow.Author.Needs.{needs}
 use Rattle.characters.proofs.utf_ebcdic.short_at.Statement.{statement}
@@ -17,7 +18,10 @@ wide-requires : tie.Need-wide-requires
 wide-requires c κs = search needs
 
 returns : tie.Need-returns
-returns c = let z = c .before .before .before .before .before in one-byte UtfEbcdic (now (z .args .text)) (z .args .at) (omega arith) (record { inside = omega (arith, z .pre .1); from = omega arith; to = omega (arith, c .before .if1 .taken, c .before .before .exchanged .ensures) }) (omega (arith, c .wide .ensures, c .before .before .exchanged .ensures))
+returns c =
+    let z = c .before .before .before .before .before in
+    one-byte UtfEbcdic (now (z .args .text)) (z .args .at) (omega arith) (record { inside = omega (arith, z .pre .1); from = omega arith; to = omega (arith, c .before .if1 .taken, c .before .before .exchanged .ensures) }) (omega (arith, c .wide .ensures, c .before .before .exchanged .ensures))
+    (free-below (c .wide .result) (omega (arith, c .wide .ensures, c .before .if1 .taken)))
 
 returns-2 : tie.Need-returns-2
 returns-2 c = none-there

@@ -13,7 +13,7 @@ use Rattle.encoder.proofs.fss_utf.three.Statement.{statement}
 use Rattle.encoder.proofs.fss_utf.three.Tie as tie
 
 spelled : (c : tie.Start) → let v = c .args .value in encode fssUtf v ≡ (0xE0 + v / 4096) ∷ (0x80 + v / 64 % 64) ∷ (0x80 + v % 64) ∷ []
-spelled c = three-bytes (c .args .value) (c .pre .0) (c .pre .1)
+spelled c = three-bytes (c .args .value) (c .pre .0) (c .pre .1) (c .pre .2)
 
 add-dst : tie.Need-add-dst
 add-dst c = search needs
@@ -22,7 +22,7 @@ cast-dst : tie.Need-cast-dst
 cast-dst c = search needs
 
 slice-write-dst : tie.Need-slice-write-dst
-slice-write-dst c = omega (arith, ap length (spelled c), c .pre .2)
+slice-write-dst c = omega (arith, ap length (spelled c), c .pre .3)
 
 add-dst-2 : tie.Need-add-dst-2
 add-dst-2 c = search needs
@@ -34,7 +34,7 @@ add-dst-3 : tie.Need-add-dst-3
 add-dst-3 c = search needs
 
 slice-write-dst-2 : tie.Need-slice-write-dst-2
-slice-write-dst-2 c = simp length-set (omega (arith, ap length (spelled c), c .pre .2))
+slice-write-dst-2 c = simp length-set (omega (arith, ap length (spelled c), c .pre .3))
 
 add-dst-4 : tie.Need-add-dst-4
 add-dst-4 c = search needs
@@ -46,7 +46,7 @@ add-dst-5 : tie.Need-add-dst-5
 add-dst-5 c = search needs
 
 slice-write-dst-3 : tie.Need-slice-write-dst-3
-slice-write-dst-3 c = simp length-set (omega (arith, ap length (spelled c), c .pre .2))
+slice-write-dst-3 c = simp length-set (omega (arith, ap length (spelled c), c .pre .3))
 
 add-result : tie.Need-add-result
 add-result c = search needs
@@ -58,7 +58,7 @@ returns : tie.Need-returns
 returns c =
     let a = c .args in
     let v = a .value in
-    (ap (λ (e : List ℕ). a .at + length e) (sym (spelled c)), put-three (now (a .dst)) (a .at) (0xE0 + v / 4096) (0x80 + v / 64 % 64) (0x80 + v % 64) (encode fssUtf v) (spelled c) (c .pre .2))
+    (ap (λ (e : List ℕ). a .at + length e) (sym (spelled c)), put-three (now (a .dst)) (a .at) (0xE0 + v / 4096) (0x80 + v / 64 % 64) (0x80 + v % 64) (encode fssUtf v) (spelled c) (c .pre .3))
 
 pub three-spec : {M : Type 1} → statement M
 three-spec =

@@ -2,8 +2,6 @@ use Prim.Native.Nat.{_-_, _≤_}
 use mathlib.Core.Path.{_≡_, refl}
 use native.Mathlib.Omega.{arith}
 use Rattle.forms.specs.Forms.{fssUtf}
-use Rattle.laws.proofs.Characters.{encodable-small}
-use Rattle.laws.proofs.FourForms.{fssUtf-laws}
 use Rattle.laws.proofs.Values.{Encoded, encoded-none, encoded-one, value-room, encoded-join, encoded-length}
 use borrow.Author.Needs.{needs}
 use Rattle.encoder.proofs.fss_utf_blocks.each.Statement.{statement}
@@ -31,7 +29,7 @@ write-requires : tie.Need-write-requires Inv-loop μ-loop
 write-requires c κs =
     let l = c .before .before .before in
     let p = l .before .before .before .pre in
-    (encodable-small fssUtf fssUtf-laws _ (p .0 .each (l .loop .k) (c .before .before .loop-test .taken)), value-room (p .0 .inside) (p .1) (c .before .before .loop-test .taken) (l .loop .inv .1))
+    (p .0 .each (l .loop .k) (c .before .before .loop-test .taken), value-room (p .0 .inside) (p .1) (c .before .before .loop-test .taken) (l .loop .inv .1))
 
 add-k : tie.Need-add-k Inv-loop μ-loop
 add-k c = search needs

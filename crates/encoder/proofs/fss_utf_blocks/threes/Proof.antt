@@ -29,7 +29,7 @@ three-requires : tie.Need-three-requires Inv-loop μ-loop
 three-requires c κs =
     let l = c .before .before .before in
     let p = l .before .before .before .pre in
-    (p .3 .each (l .loop .k) (c .before .before .loop-test .taken), omega (arith, p .2 .each (l .loop .k) (c .before .before .loop-test .taken)), value-room (p .0 .inside) (p .1) (c .before .before .loop-test .taken) (l .loop .inv .1))
+    (p .0 .each (l .loop .k) (c .before .before .loop-test .taken), p .3 .each (l .loop .k) (c .before .before .loop-test .taken), omega (arith, p .2 .each (l .loop .k) (c .before .before .loop-test .taken)), value-room (p .0 .inside) (p .1) (c .before .before .loop-test .taken) (l .loop .inv .1))
 
 add-k : tie.Need-add-k Inv-loop μ-loop
 add-k c = search needs

@@ -8,12 +8,13 @@ use lib.ListN.{length, length-set}
 use denote.Ref.{now}
 use Rattle.forms.specs.Form.{encode}
 use Rattle.forms.specs.Forms.{utf16}
+use Rattle.laws.proofs.FourForms.{utf16-laws}
 use Rattle.laws.proofs.UnitEncodings.{unit, below-limit, pair, put-one, put-two}
 use Rattle.encoder.proofs.utf16.write.Statement.{statement}
 use Rattle.encoder.proofs.utf16.write.Tie as tie
 
 one : (c : tie.Then1) → let v = c .before .args .value in encode utf16 v ≡ v ∷ []
-one c = unit (c .before .args .value) (c .before .pre .0) (c .if1 .taken)
+one c = unit (c .before .args .value) utf16 utf16-laws (c .before .pre .0) (c .if1 .taken)
 
 two : (c : tie.Else1) → let v = c .before .args .value in encode utf16 v ≡ (0xD800 + (v - 0x10000) / 0x400) ∷ (0xDC00 + (v - 0x10000) % 0x400) ∷ []
 two c = pair (c .before .args .value) (c .if1 .left) (below-limit (c .before .args .value) (c .before .pre .0))

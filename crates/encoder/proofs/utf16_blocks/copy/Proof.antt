@@ -5,6 +5,7 @@ use lib.ListN.{getD}
 use denote.Ref.{now}
 use Rattle.forms.specs.Forms.{utf16}
 use Rattle.laws.proofs.Values.{Encoded, encoded-start, encoded-put, encoded-length}
+use Rattle.laws.proofs.FourForms.{utf16-laws}
 use Rattle.laws.proofs.UnitEncodings.{unit}
 use borrow.Author.Needs.{needs}
 use Rattle.encoder.proofs.utf16_blocks.copy.Statement.{statement}
@@ -35,13 +36,13 @@ cast-dst : tie.Need-cast-dst Inv-loop μ-loop
 cast-dst c = omega (arith, below c)
 
 add-dst-2 : tie.Need-add-dst-2 Inv-loop μ-loop
-add-dst-2 c = omega (arith, encoded-put (c .before .before .before .pre .1) (c .before .before .before .pre .0 .inside) (c .before .loop-test .taken) (c .before .before .loop .inv .1) (unit _ (c .before .before .before .pre .0 .each _ (c .before .loop-test .taken)) (below c)) .0, c .before .before .before .good)
+add-dst-2 c = omega (arith, encoded-put (c .before .before .before .pre .1) (c .before .before .before .pre .0 .inside) (c .before .loop-test .taken) (c .before .before .loop .inv .1) (unit _ utf16 utf16-laws (c .before .before .before .pre .0 .each _ (c .before .loop-test .taken)) (below c)) .0, c .before .before .before .good)
 
 mul-dst-2 : tie.Need-mul-dst-2 Inv-loop μ-loop
 mul-dst-2 c = search needs
 
 slice-write-dst : tie.Need-slice-write-dst Inv-loop μ-loop
-slice-write-dst c = encoded-put (c .before .before .before .pre .1) (c .before .before .before .pre .0 .inside) (c .before .loop-test .taken) (c .before .before .loop .inv .1) (unit _ (c .before .before .before .pre .0 .each _ (c .before .loop-test .taken)) (below c)) .0
+slice-write-dst c = encoded-put (c .before .before .before .pre .1) (c .before .before .before .pre .0 .inside) (c .before .loop-test .taken) (c .before .before .loop .inv .1) (unit _ utf16 utf16-laws (c .before .before .before .pre .0 .each _ (c .before .loop-test .taken)) (below c)) .0
 
 add-k : tie.Need-add-k Inv-loop μ-loop
 add-k c = search needs
@@ -50,7 +51,7 @@ loop-less : tie.Need-loop-less Inv-loop μ-loop
 loop-less c = search needs
 
 loop-again : tie.Need-loop-again Inv-loop μ-loop
-loop-again c = (omega arith, encoded-put (c .before .before .before .pre .1) (c .before .before .before .pre .0 .inside) (c .before .loop-test .taken) (c .before .before .loop .inv .1) (unit _ (c .before .before .before .pre .0 .each _ (c .before .loop-test .taken)) (below c)) .1)
+loop-again c = (omega arith, encoded-put (c .before .before .before .pre .1) (c .before .before .before .pre .0 .inside) (c .before .loop-test .taken) (c .before .before .loop .inv .1) (unit _ utf16 utf16-laws (c .before .before .before .pre .0 .each _ (c .before .loop-test .taken)) (below c)) .1)
 
 add-result : tie.Need-add-result Inv-loop μ-loop
 add-result c = omega (arith, c .before .before .pre .1 .fits, c .before .before .good)

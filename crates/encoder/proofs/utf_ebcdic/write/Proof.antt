@@ -24,7 +24,7 @@ three c = three-bytes (c .before .before .before .before .args .value) (c .befor
 
 four : (c : tie.Then4) → let v = c .before .before .before .before .before .args .value in
     encode utfEbcdic v ≡ ebcdicOf (0xF0 + v / 32768) ∷ ebcdicOf (0xA0 + v / 1024 % 32) ∷ ebcdicOf (0xA0 + v / 32 % 32) ∷ ebcdicOf (0xA0 + v % 32) ∷ []
-four c = four-bytes (c .before .before .before .before .before .args .value) (c .before .if3 .left) (c .if4 .taken)
+four c = let z = c .before .before .before .before .before in four-bytes (z .args .value) (z .pre .1) (c .before .if3 .left) (c .if4 .taken)
 
 unit-requires : tie.Need-unit-requires
 unit-requires c κs = search needs

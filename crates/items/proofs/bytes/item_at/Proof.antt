@@ -1,7 +1,7 @@
 use borrow.Author.Needs.{needs}
 use native.Mathlib.Omega.{arith}
 use Prim.Native.Nat.{ℕ, _-_}
-use mathlib.Core.Path.{_≡_}
+use mathlib.Core.Path.{_≡_, sym, _∙_}
 use mathlib.Core.List.{List}
 use lib.ListN.{getD}
 use denote.Ref.{now}
@@ -11,7 +11,7 @@ use Rattle.tables.specs.ByteForms.{byteForm, layoutOf, plainOf, roleNumber}
 use Rattle.tables.specs.declared.ByteForm.{ByteForm}
 use Rattle.tables.proofs.ByteLayouts.{fits}
 use Rattle.tables.proofs.Agreement.{byte-role}
-use Rattle.items.proofs.ByteItems.{trailing-alone, invalid-alone, in-row, lead-room, count-most, missing, too-long, whole-character}
+use Rattle.items.proofs.ByteItems.{trailing-alone, invalid-alone, in-row, lead-room, count-most, missing, too-long, no-character, whole-character}
 use Rattle.items.proofs.bytes.item_at.Statement.{statement}
 use Rattle.items.proofs.bytes.item_at.Tie as tie
 
@@ -107,14 +107,28 @@ returns-4 c =
     (w .wide .result) (t .tail-at .result .count) (t .tail-at .result .value) (own w) (t .tail-at .ensures) (c .before .before .if3 .left)
     (rw (c .before .lowest .ensures) at (c .if4 .taken))
 
+is-surrogate-requires : tie.Need-is-surrogate-requires
+is-surrogate-requires c κs = search needs
+
 returns-5 : tie.Need-returns-5
 returns-5 c =
-    let t = c .before .before .before in
+    let l = c .before .before in
+    let t = l .before .before .before in
+    let w = t .before in
+    let r = w .before .before .before .before in
+    no-character (form r) (s r) (p r) (n r) (told r) (w .before .before .before .if1 .left) (w .before .before .if2 .left)
+    (w .wide .result) (t .tail-at .result .count) (t .tail-at .result .value) (own w) (t .tail-at .ensures) (l .before .before .if3 .left)
+    (rw (l .before .lowest .ensures) at (l .if4 .left)) (sym (c .before .is-surrogate .ensures) ∙ c .if5 .taken)
+
+returns-6 : tie.Need-returns-6
+returns-6 c =
+    let l = c .before .before in
+    let t = l .before .before .before in
     let w = t .before in
     let r = w .before .before .before .before in
     whole-character (form r) (s r) (p r) (n r) (told r) (w .before .before .before .if1 .left) (w .before .before .if2 .left)
-    (w .wide .result) (t .tail-at .result .count) (t .tail-at .result .value) (own w) (t .tail-at .ensures) (c .before .before .if3 .left)
-    (rw (c .before .lowest .ensures) at (c .if4 .left))
+    (w .wide .result) (t .tail-at .result .count) (t .tail-at .result .value) (own w) (t .tail-at .ensures) (l .before .before .if3 .left)
+    (rw (l .before .lowest .ensures) at (l .if4 .left)) (sym (c .before .is-surrogate .ensures) ∙ c .if5 .left)
 
 pub item-at-spec : {M : Type 1} → statement M
 item-at-spec =
@@ -136,4 +150,6 @@ item-at-spec =
     returns-3
     lowest-requires
     returns-4
-    returns-5)
+    is-surrogate-requires
+    returns-5
+    returns-6)

@@ -1,27 +1,28 @@
-use Prim.Native.Nat.{_+_, _-_, _<_}
-use mathlib.Core.Path.{refl}
+use Prim.Native.Nat.{_+_, _-_}
+use mathlib.Core.Path.{_≡_, refl}
+use mathlib.Core.Bool.{false, _||_}
 use native.Mathlib.Omega.{arith}
 use borrow.Author.Needs.{needs}
+use lib.Dec.{leb}
 use lib.ListN.{getD}
 use denote.Ref.{now}
 use Rattle.forms.specs.Forms.{ucs4}
-use Rattle.characters.proofs.Shorts.{or-left, or-right}
-use Rattle.lossy_runs.proofs.Units.{ucs4-unit}
+use Rattle.lossy_runs.proofs.Units.{or-false-left, apart, ucs4-unit}
 use Rattle.lossy_runs.proofs.ReadingOn.{Copied, copied-none, copied-more, copied-all, read-none, read-block, block-room, Singles, Loading, loading-none, loading-more, loading-all}
 use Rattle.lossy_runs.proofs.ucs4.block_at.Statement.{statement}
 use Rattle.lossy_runs.proofs.ucs4.block_at.Tie as tie
 
 abbrev Inv-loop : tie.InvT-loop
-Inv-loop text at values starts items block₀ all₀ j₀ block all j = Loading ucs4 text at j block (all < 0x80000000)
+Inv-loop text at values starts items block₀ bad₀ j₀ block bad j = Loading ucs4 text at j block (bad ≡ false)
 
 abbrev μ-loop : tie.MeasureT-loop
-μ-loop text at values starts items block₀ all₀ j₀ block all j = 16 - j
+μ-loop text at values starts items block₀ bad₀ j₀ block bad j = 16 - j
 
 abbrev Inv-loop2 : tie.InvT-loop2
-Inv-loop2 text at values₀ starts items block all j k₀ values k = Copied values₀ items block k values
+Inv-loop2 text at values₀ starts items block bad j k₀ values k = Copied values₀ items block k values
 
 abbrev μ-loop2 : tie.MeasureT-loop2
-μ-loop2 text at values₀ starts items block all j k₀ values k = 16 - k
+μ-loop2 text at values₀ starts items block bad j k₀ values k = 16 - k
 
 -- behind the test of the block
 abbrev Tested : Type 0
@@ -51,6 +52,9 @@ mul-unit c = search needs
 shared-slice-read-unit : tie.Need-shared-slice-read-unit Inv-loop μ-loop Inv-loop2 μ-loop2
 shared-slice-read-unit c = search needs
 
+is-surrogate-requires : tie.Need-is-surrogate-requires Inv-loop μ-loop Inv-loop2 μ-loop2
+is-surrogate-requires c κs = search needs
+
 mul-block : tie.Need-mul-block Inv-loop μ-loop Inv-loop2 μ-loop2
 mul-block c = search needs
 
@@ -65,9 +69,12 @@ loop-less c = search needs
 
 loop-again : tie.Need-loop-again Inv-loop μ-loop Inv-loop2 μ-loop2
 loop-again c =
-    let l = c .before .before .loop in
-    let x = getD (now (c .before .before .before .before .before .before .before .args .text)) (c .before .before .before .before .before .before .before .args .at + l .j) 0 in
-    loading-more (l .inv) (c .before .loop-test .taken) (λ q. omega (arith, q, or-left (l .all) x)) (λ q. ucs4-unit (omega arith) refl (omega (arith, q, or-right (l .all) x)))
+    let l = c .before .before .before .loop in
+    let z = c .before .before .before .before .before .before .before .before .args in
+    let x = getD (now (z .text)) (z .at + l .j) 0 in
+    let gap = c .is-surrogate .result in
+    loading-more (l .inv) (c .before .before .loop-test .taken) (λ q. or-false-left (l .bad) gap (or-false-left (l .bad || gap) (leb 0x80000000 x) q))
+    (λ q. ucs4-unit (omega arith) refl (c .is-surrogate .ensures) (apart (l .bad) gap (leb 0x80000000 x) q))
 
 returns-2 : tie.Need-returns-2 Inv-loop μ-loop Inv-loop2 μ-loop2
 returns-2 c = read-none (c .before .before .before .before .before .before .before .pre .within)
@@ -140,6 +147,7 @@ block-at-spec =
     shared-slice-read-unit
     mul-block
     array-write-block
+    is-surrogate-requires
     add-j
     loop-less
     loop-again

@@ -26,7 +26,7 @@ abbrev Short : Type 0
 Short = tie.Else1 Inv-loop μ-loop
 
 abbrev loop : Short → tie.At-loop Inv-loop μ-loop
-loop c = c .before .before .before
+loop c = c .before .before .before .before
 
 abbrev start : Short → tie.Start Inv-loop μ-loop
 start c = loop c .before .before .before .before .before
@@ -35,7 +35,7 @@ abbrev unit : Short → ℕ
 unit c = getD (now (start c .args .text)) (loop c .loop .to) 0
 
 here : (c : Short) → CharacterAt ucs4 (now (start c .args .text)) (loop c .loop .to) (unit c) (span (loop c .loop .to) 1)
-here c = ucs4-unit (omega (arith, c .before .before .loop-test .taken, loop c .before .stop-at .ensures)) refl (c .if1 .left)
+here c = ucs4-unit (omega (arith, c .before .before .before .loop-test .taken, loop c .before .stop-at .ensures)) refl (c .before .is-surrogate .ensures) (c .if1 .left)
 
 abbrev read : (c : Short) → ItemAt ucs4 (now (start c .args .text)) (loop c .loop .to) (Character (unit c) (span (loop c .loop .to) 1)) (span (loop c .loop .to) 1)
 read c = character-item (here c)
@@ -51,6 +51,9 @@ mul-unit c = search needs
 
 shared-slice-read-unit : tie.Need-shared-slice-read-unit Inv-loop μ-loop
 shared-slice-read-unit c = omega (arith, c .before .loop-test .taken, c .before .before .before .stop-at .ensures)
+
+is-surrogate-requires : tie.Need-is-surrogate-requires Inv-loop μ-loop
+is-surrogate-requires c κs = search needs
 
 mul-values : tie.Need-mul-values Inv-loop μ-loop
 mul-values c = search needs
@@ -89,13 +92,13 @@ returns : tie.Need-returns Inv-loop μ-loop
 returns c = c .before .loop .inv
 
 same-length-3 : tie.Need-same-length-3 Inv-loop μ-loop
-same-length-3 c = c .before .before .before .loop .inv .same-values
+same-length-3 c = c .before .before .before .before .loop .inv .same-values
 
 same-length-4 : tie.Need-same-length-4 Inv-loop μ-loop
-same-length-4 c = c .before .before .before .loop .inv .same-starts
+same-length-4 c = c .before .before .before .before .loop .inv .same-starts
 
 returns-2 : tie.Need-returns-2 Inv-loop μ-loop
-returns-2 c = c .before .before .before .loop .inv
+returns-2 c = c .before .before .before .before .loop .inv
 
 pub some-at-spec : {M : Type 1} → statement M
 some-at-spec =
@@ -107,6 +110,7 @@ some-at-spec =
     loop-holds
     mul-unit
     shared-slice-read-unit
+    is-surrogate-requires
     mul-values
     slice-write-values
     cast-starts

@@ -21,17 +21,23 @@ returns c =
 returns-2 : tie.Need-returns-2
 returns-2 c = λ z. absurd (z refl)
 
+surrogates-requires : tie.Need-surrogates-requires
+surrogates-requires c κs = (c .before .before .before .before .before .pre .1, c .before .before .before .joined .ensures)
+
+returns-3 : tie.Need-returns-3
+returns-3 c = λ z. absurd (z refl)
+
 lowest-requires-2 : tie.Need-lowest-requires-2
-lowest-requires-2 c κs = omega (arith, rows (c .before .before .before .before .before .args .form))
+lowest-requires-2 c κs = omega (arith, rows (c .before .before .before .before .before .before .before .args .form))
 
 lowest-requires-3 : tie.Need-lowest-requires-3
-lowest-requires-3 c κs = omega (arith, rows (c .before .before .before .before .before .before .args .form))
+lowest-requires-3 c κs = omega (arith, rows (c .before .before .before .before .before .before .before .before .args .form))
 
 reached-requires : tie.Need-reached-requires
 reached-requires c κs = search needs
 
 lowest-requires-4 : tie.Need-lowest-requires-4
-lowest-requires-4 c κs = omega (arith, rows (c .before .before .before .before .before .before .before .before .args .form))
+lowest-requires-4 c κs = omega (arith, rows (c .before .before .before .before .before .before .before .before .before .before .args .form))
 
 wide-requires : tie.Need-wide-requires
 wide-requires c κs = search needs
@@ -39,21 +45,22 @@ wide-requires c κs = search needs
 add-result : tie.Need-add-result
 add-result c = search needs
 
-returns-3 : tie.Need-returns-3
-returns-3 c =
+returns-4 : tie.Need-returns-4
+returns-4 c =
     λ z.
     let l = c .before .before in
     let e = l .before .before .before .before in
-    let n = e .before .before in
+    let w = e .before .before in
+    let n = w .before .before in
     let x = n .before .before .before in
     bytes-few (x .args .form) (x .pre .1) (n .before .joined .ensures) (n .lowest .ensures) (l .before .before .before .lowest2 .ensures) (l .before .before .lowest3 .ensures)
-    (l .before .reached .ensures) (c .wide .ensures) (e .if2 .left) (l .lowest4 .ensures) (c .before .if3 .taken)
+    (l .before .reached .ensures) (c .wide .ensures) (w .if2 .left) (e .before .surrogates .ensures (e .if3 .left)) (l .lowest4 .ensures) (c .before .if4 .taken)
 
 lowest-requires-5 : tie.Need-lowest-requires-5
-lowest-requires-5 c κs = omega (arith, rows (c .before .before .before .before .before .before .before .before .before .before .args .form))
+lowest-requires-5 c κs = omega (arith, rows (c .before .before .before .before .before .before .before .before .before .before .before .before .args .form))
 
 lowest-requires-6 : tie.Need-lowest-requires-6
-lowest-requires-6 c κs = omega (arith, rows (c .before .before .before .before .before .before .before .before .before .before .before .args .form))
+lowest-requires-6 c κs = omega (arith, rows (c .before .before .before .before .before .before .before .before .before .before .before .before .before .args .form))
 
 reached-requires-2 : tie.Need-reached-requires-2
 reached-requires-2 c κs = search needs
@@ -70,15 +77,16 @@ wide-requires-3 c κs = search needs
 add-result-3 : tie.Need-add-result-3
 add-result-3 c = search needs
 
-returns-4 : tie.Need-returns-4
-returns-4 c =
+returns-5 : tie.Need-returns-5
+returns-5 c =
     λ z.
     let l = c .before .before .before .before .before .before in
     let e = l .before .before .before .before in
-    let n = e .before .before in
+    let w = e .before .before in
+    let n = w .before .before in
     let x = n .before .before .before in
     bytes-all (x .args .form) (x .pre .1) (n .before .joined .ensures) (n .lowest .ensures) (l .before .before .before .lowest2 .ensures) (l .before .before .lowest3 .ensures)
-    (l .before .reached .ensures) (c .before .wide2 .ensures) (e .if2 .left) (l .lowest4 .ensures) (c .before .before .before .before .lowest5 .ensures)
+    (l .before .reached .ensures) (c .before .wide2 .ensures) (w .if2 .left) (e .before .surrogates .ensures (e .if3 .left)) (l .lowest4 .ensures) (c .before .before .before .before .lowest5 .ensures)
     (c .before .before .before .lowest6 .ensures) (c .before .before .reached2 .ensures) (c .wide3 .ensures)
 
 pub byte-block-spec : {M : Type 1} → statement M
@@ -89,13 +97,15 @@ byte-block-spec =
     lowest-requires
     returns
     returns-2
+    surrogates-requires
+    returns-3
     lowest-requires-2
     lowest-requires-3
     reached-requires
     lowest-requires-4
     wide-requires
     add-result
-    returns-3
+    returns-4
     lowest-requires-5
     lowest-requires-6
     reached-requires-2
@@ -103,4 +113,4 @@ byte-block-spec =
     add-result-2
     wide-requires-3
     add-result-3
-    returns-4)
+    returns-5)

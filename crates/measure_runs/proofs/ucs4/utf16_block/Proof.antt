@@ -34,6 +34,9 @@ mul-unit c = search needs
 shared-slice-read-unit : tie.Need-shared-slice-read-unit Inv-loop μ-loop
 shared-slice-read-unit c = search needs
 
+is-surrogate-requires : tie.Need-is-surrogate-requires Inv-loop μ-loop
+is-surrogate-requires c κs = search needs
+
 number-requires : tie.Need-number-requires Inv-loop μ-loop
 number-requires c κs = search needs
 
@@ -41,7 +44,7 @@ add-sum : tie.Need-add-sum Inv-loop μ-loop
 add-sum c = omega arith
 
 add-sum-2 : tie.Need-add-sum-2 Inv-loop μ-loop
-add-sum-2 c = omega (arith, most (c .before), c .number .ensures .1)
+add-sum-2 c = omega (arith, most (c .before .before), c .number .ensures .1)
 
 add-k : tie.Need-add-k Inv-loop μ-loop
 add-k c = search needs
@@ -51,11 +54,11 @@ loop-less c = search needs
 
 loop-again : tie.Need-loop-again Inv-loop μ-loop
 loop-again c =
-    let l = c .before .before .before in
+    let l = c .before .before .before .before in
     let a = l .before .before .args in (
-      omega (arith, c .before .before .loop-test .taken),
+      omega (arith, c .before .before .before .loop-test .taken),
       rw (c .number .ensures .0, l .loop .inv .1) (sym (sum-more (unitsAt (now (a .src))) (a .at) (l .loop .k))),
-      clean-more (l .loop .inv .2),
+      clean-more (l .loop .inv .2) (c .before .is-surrogate .ensures),
     )
 
 returns : tie.Need-returns Inv-loop μ-loop
@@ -82,6 +85,7 @@ utf16-block-spec =
     add-unit
     mul-unit
     shared-slice-read-unit
+    is-surrogate-requires
     number-requires
     add-sum
     add-sum-2

@@ -4,7 +4,7 @@ use Rattle.forms.specs.Exchange.{i8Of}
 use denote.Ref.{now}
 use Rattle.forms.specs.Form.{span}
 use Rattle.forms.specs.Forms.{utfEbcdic}
-use Rattle.laws.proofs.Progress.{CharacterAt, character-small, character-onward}
+use Rattle.laws.proofs.Progress.{CharacterAt, character-value, character-onward}
 use Rattle.laws.proofs.Runs.{Counted, counted-none, counted-join}
 use Rattle.laws.proofs.FourForms.{utfEbcdic-laws}
 use Rattle.encoder.specs.Target.{targetForm}
@@ -81,7 +81,7 @@ returns : tie.Need-returns Inv-loop μ-loop
 returns c = c .before .before .before .before .before .before .loop .inv
 
 encoded-length-requires : tie.Need-encoded-length-requires Inv-loop μ-loop
-encoded-length-requires c κs = character-small utfEbcdic-laws (read c)
+encoded-length-requires c κs = character-value utfEbcdic-laws (read c)
 
 returns-2 : tie.Need-returns-2 Inv-loop μ-loop
 returns-2 c = c .before .before .before .before .before .before .before .before .loop .inv

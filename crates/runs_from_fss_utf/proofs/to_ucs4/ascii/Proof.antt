@@ -3,7 +3,7 @@ use mathlib.Core.List.{List}
 use lib.ListN.{length, getD}
 use denote.Ref.{now}
 use Rattle.forms.specs.Forms.{fssUtf, ucs4}
-use Rattle.laws.proofs.UnitEncodings.{ucs4-encoding}
+use Rattle.laws.proofs.UnitEncodings.{ucs4-below}
 use Rattle.laws.proofs.Runs.{CopyingRun, copying-run-begin, copying-run-more, copying-run-idle}
 use Rattle.measure_runs.proofs.FssUtfAsciiCounting.{ascii-more}
 use borrow.Author.Needs.{needs}
@@ -118,7 +118,7 @@ loop2-again c = λ d r.
     let l = c .before .before .before .before .before .loop2 in
     let u = c .before .before .wide .ensures in
     let b : getD (now (c .before .before .before .before .before .before .before .before .before .before .args .src)) (c .before .before .before .before .before .before .before .before .before .before .args .at + l .taken) 0 < 0x80 = omega (arith, u, c .before .if3 .left) in
-    ascii-more (l .inv d r) (omega (arith, c .before .before .before .before .loop2-test .taken)) (omega (arith, c .if4 .left)) b (ucs4-encoding (getD (now (c .before .before .before .before .before .before .before .before .before .before .args .src)) (c .before .before .before .before .before .before .before .before .before .before .args .at + l .taken) 0) (omega arith)) u
+    ascii-more (l .inv d r) (omega (arith, c .before .before .before .before .loop2-test .taken)) (omega (arith, c .if4 .left)) b (ucs4-below (getD (now (c .before .before .before .before .before .before .before .before .before .before .args .src)) (c .before .before .before .before .before .before .before .before .before .before .args .at + l .taken) 0) (omega arith)) u
 
 same-length-5 : tie.Need-same-length-5 Inv-loop μ-loop Inv-loop2 μ-loop2
 same-length-5 c = (c .before .loop2 .inv _ (c .before .before .before .loop .inv)) .same

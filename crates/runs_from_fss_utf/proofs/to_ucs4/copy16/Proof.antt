@@ -2,7 +2,7 @@ use Prim.Native.Nat.{_+_, _-_, _≤_, _<_}
 use mathlib.Core.Path.{refl}
 use denote.Ref.{now}
 use lib.ListN.{getD}
-use Rattle.laws.proofs.UnitEncodings.{ucs4-encoding}
+use Rattle.laws.proofs.UnitEncodings.{ucs4-below}
 use Rattle.laws.proofs.Blocks.{AtMost, at-most-none, at-most-or, Held, held-none, held-more, Copied, copied-none, copied-more}
 use Rattle.laws.proofs.Runs.{wrote-none, wrote-block}
 use Rattle.measure_runs.proofs.FssUtfAsciiCounting.{ascii-run}
@@ -92,7 +92,7 @@ returns-2 c =
           (λ j h.
           let u = getD (now (z .args .src)) (z .args .at + j) 0 in
           let a : u < 0x80 = omega (arith, l .1 .each j (omega arith), c .before .before .if1 .left) in
-          ascii-run (omega (arith, z .pre .0)) a (ucs4-encoding u (omega arith)) (l .2 .each j (omega arith)))
+          ascii-run (omega (arith, z .pre .0)) a (ucs4-below u (omega arith)) (l .2 .each j (omega arith)))
           (c .before .loop2 .inv) (c .loop2-test .left),
     )
 

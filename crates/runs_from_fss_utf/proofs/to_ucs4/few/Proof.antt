@@ -4,9 +4,9 @@ use lib.ListN.{length, getD, set}
 use denote.Ref.{now}
 use Rattle.forms.specs.Form.{span}
 use Rattle.forms.specs.Forms.{fssUtf, ucs4}
-use Rattle.laws.proofs.Progress.{CharacterAt, character-onward, character-small}
+use Rattle.laws.proofs.Progress.{CharacterAt, character-onward}
 use Rattle.laws.proofs.Runs.{Stands, WritingRun, writing-run-begin, writing-run-stands, writing-run-held, writing-run-unit, writing-run-more}
-use Rattle.laws.proofs.UnitEncodings.{ucs4-encoding}
+use Rattle.laws.proofs.UnitEncodings.{ucs4-encoding, ucs4-below}
 use Rattle.runs_from_fss_utf.proofs.KnownBytes.{Bytes, begins, bytes-one, bytes-two, bytes-three, inside-two, inside-three}
 use Rattle.laws.proofs.FourForms.{fssUtf-laws}
 use borrow.Author.Needs.{needs}
@@ -49,7 +49,7 @@ one-byte : (c : tie.After-wide Inv-loop μ-loop) → let i = c .before .before .
 one-byte c = let i = c .before .before .before in bytes-one (text i) (place i) (stands i) (c .before .if1 .taken)
 
 one : (c : tie.After-wide Inv-loop μ-loop) → Next (c .before .before .before) 1 (c .wide .result)
-one c = let i = c .before .before .before in rw (c .wide .ensures) (writing-run-unit (i .before .loop .inv) (one-byte c .here) (ucs4-encoding (getD (text i) (place i) 0) (omega arith)))
+one c = let i = c .before .before .before in rw (c .wide .ensures) (writing-run-unit (i .before .loop .inv) (one-byte c .here) (ucs4-below (getD (text i) (place i) 0) (omega arith)))
 
 two-bytes : (c : tie.After-wide2 Inv-loop μ-loop) → let i = c .before .before .before .before .before .before in Bytes (text i) (place i) 1 ((getD (text i) (place i) 0 - 0xC0) * 64 + byte i 1 % 64)
 two-bytes c = let i = c .before .before .before .before .before .before in bytes-two (text i) (place i) (stands i) (c .before .before .before .before .if1 .left) (c .before .if2 .taken)
@@ -58,7 +58,7 @@ two : (c : tie.After-wide2 Inv-loop μ-loop) → Next (c .before .before .before
 two c =
     let i = c .before .before .before .before .before .before in
     rw (c .wide2 .ensures, c .before .before .free-bits .ensures)
-    (writing-run-unit (i .before .loop .inv) (two-bytes c .here) (ucs4-encoding ((getD (text i) (place i) 0 - 0xC0) * 64 + byte i 1 % 64) (omega arith)))
+    (writing-run-unit (i .before .loop .inv) (two-bytes c .here) (ucs4-below ((getD (text i) (place i) 0 - 0xC0) * 64 + byte i 1 % 64) (omega arith)))
 
 three-bytes : (c : tie.After-wide3 Inv-loop μ-loop) → let i = c .before .before .before .before .before .before .before .before .before in
     Bytes (text i) (place i) 2 (((getD (text i) (place i) 0 - 0xE0) * 64 + byte i 1 % 64) * 64 + byte i 2 % 64)
@@ -69,7 +69,7 @@ three c =
     let i = c .before .before .before .before .before .before .before .before .before in
     let v = ((getD (text i) (place i) 0 - 0xE0) * 64 + byte i 1 % 64) * 64 + byte i 2 % 64 in
     rw (c .wide3 .ensures, c .before .before .before .before .before .free-bits .ensures, c .before .before .free-bits2 .ensures)
-    (writing-run-unit (i .before .loop .inv) (three-bytes c .here) (ucs4-encoding v (omega arith)))
+    (writing-run-unit (i .before .loop .inv) (three-bytes c .here) (ucs4-encoding v (writing-run-held (i .before .loop .inv) (three-bytes c .here) .0)))
 
 -- a character of four bytes
 long : (c : tie.Else4 Inv-loop μ-loop) → let i = c .before .before .before .before .before .before .before .before .before .before in CharacterAt fssUtf (text i) (place i) (c .before .known-at .result .value) (span (place i) (c .before .known-at .result .length))
@@ -205,7 +205,7 @@ returns : tie.Need-returns Inv-loop μ-loop
 returns c = c .before .before .before .before .before .before .before .before .before .before .before .loop .inv .wrote
 
 write-requires : tie.Need-write-requires Inv-loop μ-loop
-write-requires c κs = (character-small fssUtf-laws (long (c .before)), writing-run-held (c .before .before .before .before .before .before .before .before .before .before .before .before .loop .inv) (long (c .before)) .1)
+write-requires c κs = writing-run-held (c .before .before .before .before .before .before .before .before .before .before .before .before .loop .inv) (long (c .before))
 
 add-length-4 : tie.Need-add-length-4 Inv-loop μ-loop
 add-length-4 c = omega (arith, character-onward (long (c .before .before .before .before)) .1, c .before .before .before .before .before .before .before .before .before .before .before .before .before .before .before .before .before .before .before .good)

@@ -3,7 +3,7 @@ use mathlib.Core.Path.{_≡_, refl}
 use mathlib.Core.List.{[], _∷_}
 use Rattle.forms.specs.Form.{encode}
 use Rattle.forms.specs.Forms.{ucs4}
-use Rattle.laws.proofs.UnitEncodings.{ucs4-encoding}
+use Rattle.laws.proofs.UnitEncodings.{ucs4-below}
 use Rattle.runs_from_fss_utf.proofs.ShortRuns.{ShortRun, short-run-begin, short-run-room, short-run-more, short-run-end}
 use borrow.Author.Needs.{needs}
 use native.Mathlib.Omega.{arith}
@@ -11,7 +11,7 @@ use Rattle.runs_from_fss_utf.proofs.to_ucs4.short64.Statement.{statemen
 use Rattle.runs_from_fss_utf.proofs.to_ucs4.short64.Tie as tie
 
 single : (v : ℕ) → v < 0x800 → encode ucs4 v ≡ v ∷ []
-single v h = ucs4-encoding v (omega arith)
+single v h = ucs4-below v (omega arith)
 
 abbrev Inv-loop : tie.InvT-loop
 Inv-loop src at dst₀ written values begun last to₀ k₀ dst to k = (k ≤ last) × ShortRun ucs4 src at written dst₀ k to dst

@@ -6,6 +6,7 @@ use Rattle.forms.specs.Form.{span}
 use Rattle.forms.specs.Forms.{fssUtf, utf16}
 use Rattle.laws.proofs.Progress.{CharacterAt, character-onward}
 use Rattle.laws.proofs.Runs.{Stands, WritingRun, writing-run-begin, writing-run-stands, writing-run-held, writing-run-unit, writing-run-more}
+use Rattle.laws.proofs.FourForms.{utf16-laws}
 use Rattle.laws.proofs.UnitEncodings.{below-surrogates, unit}
 use Rattle.runs_from_fss_utf.proofs.KnownBytes.{Bytes, begins, bytes-one, bytes-two, bytes-three, inside-two, inside-three}
 use borrow.Author.Needs.{needs}
@@ -68,7 +69,7 @@ three c =
     let i = c .before .before .before .before .before .before .before .before .before in
     let v = ((getD (text i) (place i) 0 - 0xE0) * 64 + byte i 1 % 64) * 64 + byte i 2 % 64 in
     rw (c .wide3 .ensures, c .before .before .before .before .before .free-bits .ensures, c .before .before .free-bits2 .ensures)
-    (writing-run-unit (i .before .loop .inv) (three-bytes c .here) (unit v (writing-run-held (i .before .loop .inv) (three-bytes c .here) .0) (omega arith)))
+    (writing-run-unit (i .before .loop .inv) (three-bytes c .here) (unit v utf16 utf16-laws (writing-run-held (i .before .loop .inv) (three-bytes c .here) .0) (omega arith)))
 
 -- a character of four bytes
 long : (c : tie.Else4 Inv-loop μ-loop) → let i = c .before .before .before .before .before .before .before .before .before .before in CharacterAt fssUtf (text i) (place i) (c .before .known-at .result .value) (span (place i) (c .before .known-at .result .length))

@@ -3,7 +3,7 @@ use lib.ListN.{length, getD}
 use denote.Ref.{now}
 use Rattle.forms.specs.Form.{span}
 use Rattle.forms.specs.Forms.{utfEbcdic, ucs4}
-use Rattle.laws.proofs.Progress.{CharacterAt, character-small, character-onward}
+use Rattle.laws.proofs.Progress.{CharacterAt, character-onward}
 use Rattle.laws.proofs.FourForms.{ucs4-laws}
 use Rattle.laws.proofs.Runs.{WritingRun, writing-run-begin, writing-run-stands, writing-run-held, writing-run-more}
 use Rattle.runs_from_ucs4.proofs.Units.{unit-stands}
@@ -54,7 +54,7 @@ add-write : tie.Need-add-write Inv-loop μ-loop
 add-write c = omega (arith, c .before .before .before .before .loop .inv .room, c .before .before .before .before .before .before .before .before .before .before .good)
 
 write-requires : tie.Need-write-requires Inv-loop μ-loop
-write-requires c κs = (c .before .before .before .before .before .inverse-table .ensures .1, character-small ucs4-laws (read (c .before .before .before)), writing-run-held (c .before .before .before .before .loop .inv) (read (c .before .before .before)) .1)
+write-requires c κs = (c .before .before .before .before .before .inverse-table .ensures .1, writing-run-held (c .before .before .before .before .loop .inv) (read (c .before .before .before)) .0, writing-run-held (c .before .before .before .before .loop .inv) (read (c .before .before .before)) .1)
 
 add-length : tie.Need-add-length Inv-loop μ-loop
 add-length c = omega (arith, character-onward (read (c .before .before .before .before .before .before)) .1, c .before .before .before .before .before .before .before .before .before .before .before .before .before .good)

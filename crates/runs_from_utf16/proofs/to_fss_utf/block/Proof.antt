@@ -1,8 +1,8 @@
 use native.Mathlib.Omega.{arith}
 use lib.ListN.{replicate}
 use denote.Ref.{now}
-use Rattle.laws.proofs.Blocks.{AtMost, at-most-looser}
-use Rattle.runs_from_utf16.proofs.Singles.{low-plain, ascii-room, ascii-wrote, plain-encodable, plain-room, plain-wrote, local-encodable, local-room, local-wrote}
+use Rattle.laws.proofs.Blocks.{AtMost, at-most-looser, no-surrogates}
+use Rattle.runs_from_utf16.proofs.Singles.{ascii-room, ascii-wrote, plain-encodable, plain-room, plain-wrote, local-encodable, local-room, local-wrote}
 use borrow.Author.Needs.{needs}
 use Rattle.runs_from_utf16.proofs.to_fss_utf.block.Statement.{statement}
 use Rattle.runs_from_utf16.proofs.to_fss_utf.block.Tie as tie
@@ -37,7 +37,7 @@ twos-requires c κs =
     let k = c .before .before .before .before .before in
     let p = k .before .pre in
     let a = short (c .before) in
-    (plain-encodable (p .2) (p .1) (λ i. omega (arith, k .shared-slice-known .given i)) (low-plain a (omega arith)), plain-room (p .2) (p .1) (λ i. omega (arith, k .shared-slice-known .given i)) (low-plain a (omega arith)), a)
+    (plain-encodable (p .2) (p .1) (λ i. omega (arith, k .shared-slice-known .given i)) (no-surrogates a (omega arith)), plain-room (p .2) (p .1) (λ i. omega (arith, k .shared-slice-known .given i)) (no-surrogates a (omega arith)), a)
 
 sub-t16 : tie.Need-sub-t16
 sub-t16 c = search needs
@@ -49,7 +49,7 @@ returns-2 : tie.Need-returns-2
 returns-2 c =
     let k = c .before .before .before .before .before .before .before .before in
     let p = k .before .pre in
-    (plain-wrote (p .2) (p .1) (λ i. omega (arith, k .shared-slice-known .given i)) (low-plain (short (c .before .before .before .before)) (omega arith)) (c .before .before .twos .ensures), omega arith)
+    (plain-wrote (p .2) (p .1) (λ i. omega (arith, k .shared-slice-known .given i)) (no-surrogates (short (c .before .before .before .before)) (omega arith)) (c .before .before .twos .ensures), omega arith)
 
 surrogates-requires : tie.Need-surrogates-requires
 surrogates-requires c κs = search needs

@@ -1,6 +1,7 @@
 use Prim.Native.Nat.{ℕ, _+_, _-_, _≤_, _<_}
 use mathlib.Core.Path.{_≡_}
-use mathlib.Core.List.{List}
+use mathlib.Core.Logic.{_≢_}
+use mathlib.Core.List.{List, []}
 use native.Mathlib.Omega.{arith}
 use lib.ListN.{length as long, getD}
 use denote.Ref.{now}
@@ -39,8 +40,11 @@ inside i = omega (arith, i .loop-test .taken, start i .pre .0)
 
 -- a character has room where it is written, and carries the loop on
 module _ (i : In) {v k : ℕ} (d : CharacterAt utf16 (text i) (place i) v (span (place i) k)) where
+  held : encode fssUtf v ≢ []
+  held = convertible-character (written-left (start i .pre .1) (i .before .loop .inv)) d
+
   run : Run utf16 fssUtf (text i) (place i) k (encode fssUtf v)
-  run = run-one d (convertible-character (written-left (start i .pre .1) (i .before .loop .inv)) d)
+  run = run-one d held
 
   room : i .before .loop .end + long (encode fssUtf v) ≤ long (i .before .loop .dst)
   room = written-room (start i .pre .1) (i .before .loop .inv) run
@@ -118,7 +122,7 @@ wide-requires-3 : tie.Need-wide-requires-3 Inv-loop μ-loop
 wide-requires-3 c κs = search needs
 
 three-requires : tie.Need-three-requires Inv-loop μ-loop
-three-requires c κs = let i = c .before .before .before .before .before .before .before in (omega (arith, c .before .wide3 .ensures, c .before .before .before .before .if2 .left), omega (arith, c .before .wide3 .ensures, i .before .before .before .shared-slice-known .given (place i)), rw (c .before .wide3 .ensures) (room i (three (c .before .before))))
+three-requires c κs = let i = c .before .before .before .before .before .before .before in (rw (c .before .wide3 .ensures) (held i (three (c .before .before))), omega (arith, c .before .wide3 .ensures, c .before .before .before .before .if2 .left), omega (arith, c .before .wide3 .ensures, i .before .before .before .shared-slice-known .given (place i)), rw (c .before .wide3 .ensures) (room i (three (c .before .before))))
 
 add-length-3 : tie.Need-add-length-3 Inv-loop μ-loop
 add-length-3 c = let i = c .before .before .before .before .before .before .before .before .before .before in omega (arith, inside i, start i .good)

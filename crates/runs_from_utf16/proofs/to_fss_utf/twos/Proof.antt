@@ -96,7 +96,7 @@ write-requires : tie.Need-write-requires Inv-loop μ-loop
 write-requires c κs =
     let a = c .before .before .before in
     let s = start a in
-    rw (c .before .wide2 .ensures) (omega (arith, s .pre .2 .each (s .args .count - 1) (omega (arith, last a .0))), overrun-last-room (s .pre .0) (s .pre .1) (last a .1) (omega (arith, last a .0)))
+    rw (c .before .wide2 .ensures) (s .pre .0 .each (s .args .count - 1) (omega (arith, last a .0)), overrun-last-room (s .pre .0) (s .pre .1) (last a .1) (omega (arith, last a .0)))
 
 same-length : tie.Need-same-length Inv-loop μ-loop
 same-length c = let a = c .before .before .before .before .before .before in encoded-length (start a .pre .1) (all a (c .before .before .before .before .wide2 .ensures) (c .before .before .write .ensures)) (omega arith)

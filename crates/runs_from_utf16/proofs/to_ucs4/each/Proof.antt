@@ -2,7 +2,7 @@ use Prim.Native.Nat.{_-_}
 use native.Mathlib.Omega.{arith}
 use Rattle.forms.specs.Forms.{utf16, ucs4}
 use Rattle.laws.proofs.FourForms.{utf16-laws}
-use Rattle.laws.proofs.Progress.{character-small, character-onward}
+use Rattle.laws.proofs.Progress.{character-value, character-onward}
 use Rattle.laws.proofs.Runs.{run-one, convertible-stands, convertible-character}
 use Rattle.laws.proofs.Values.{WrittenTo, written-none, written-length, written-left, written-room, written-join, written-wrote}
 use Rattle.runs_from_utf16.proofs.to_ucs4.each.Statement.{statement}
@@ -31,7 +31,7 @@ write-requires c κs =
     let d = c .before .decode .ensures in
     let l = c .before .before .before in
     let x = l .before .before .before in
-    (character-small utf16-laws d, written-room (x .pre .1) (l .loop .inv) (run-one d (convertible-character (written-left (x .pre .1) (l .loop .inv)) d)))
+    (character-value utf16-laws d, written-room (x .pre .1) (l .loop .inv) (run-one d (convertible-character (written-left (x .pre .1) (l .loop .inv)) d)))
 
 add-length : tie.Need-add-length Inv-loop μ-loop
 add-length c =

@@ -9,7 +9,7 @@ use Rattle.forms.specs.Form.{encode}
 use Rattle.forms.specs.Forms.{utf16, ucs4}
 use Rattle.forms.specs.Buffer.{withUnits}
 use Rattle.laws.proofs.FourForms.{utf16-laws}
-use Rattle.laws.proofs.Progress.{character-small, character-onward}
+use Rattle.laws.proofs.Progress.{character-value, character-onward}
 use Rattle.laws.proofs.Values.{WrittenTo, written-length, written-wrote}
 use Rattle.measure_runs.specs.Utf16Units.{isLow}
 use Rattle.measure_runs.proofs.Utf16Counting.{number-most}
@@ -121,7 +121,7 @@ write-requires : tie.Need-write-requires Inv-loop μ-loop
 write-requires c κs =
     let a = c .before .before in
     let d = c .before .decode .ensures in
-    (character-small utf16-laws d, midway-last-room (first a .pre .2) (ended a) (first a .pre .1) (a .before .before .last-of .ensures) d)
+    (character-value utf16-laws d, midway-last-room (first a .pre .2) (ended a) (first a .pre .1) (a .before .before .last-of .ensures) d)
 
 add-t21 : tie.Need-add-t21 Inv-loop μ-loop
 add-t21 c = omega (arith, character-onward (c .before .before .before .before .before .decode .ensures), first (c .before .before .before .before .before .before) .good)

@@ -3,7 +3,7 @@ use lib.ListN.{length}
 use denote.Ref.{now}
 use Rattle.forms.specs.Form.{span}
 use Rattle.forms.specs.Forms.{utf16, utfEbcdic}
-use Rattle.laws.proofs.Progress.{CharacterAt, character-small, character-onward}
+use Rattle.laws.proofs.Progress.{CharacterAt, character-onward}
 use Rattle.laws.proofs.FourForms.{utf16-laws}
 use Rattle.laws.proofs.Runs.{WritingRun, writing-run-begin, writing-run-held, writing-run-more}
 use borrow.Author.Needs.{needs}
@@ -56,7 +56,7 @@ add-write : tie.Need-add-write Inv-loop μ-loop
 add-write c = omega (arith, c .before .before .before .before .before .loop .inv .room, c .before .before .before .before .before .before .before .before .before .before .before .good)
 
 write-requires : tie.Need-write-requires Inv-loop μ-loop
-write-requires c κs = (c .before .before .before .before .before .before .inverse-table .ensures .1, character-small utf16-laws (read (c .before .before)), writing-run-held (c .before .before .before .before .before .loop .inv) (read (c .before .before)) .1)
+write-requires c κs = (c .before .before .before .before .before .before .inverse-table .ensures .1, writing-run-held (c .before .before .before .before .before .loop .inv) (read (c .before .before)) .0, writing-run-held (c .before .before .before .before .before .loop .inv) (read (c .before .before)) .1)
 
 add-length : tie.Need-add-length Inv-loop μ-loop
 add-length c = omega (arith, character-onward (read (c .before .before .before .before .before)) .1, c .before .before .before .before .before .before .before .before .before .before .before .before .before .before .good)

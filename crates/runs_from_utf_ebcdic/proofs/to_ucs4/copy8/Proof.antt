@@ -6,7 +6,7 @@ use Rattle.forms.specs.Exchange.{i8Of}
 use Rattle.laws.proofs.Blocks.{AtMost, at-most-none, at-most-or, Held, held-none, held-more, Copied, copied-none, copied-more}
 use Rattle.laws.proofs.Runs.{wrote-none}
 use Rattle.measure_runs.proofs.UtfEbcdicExchanging.{exchanged-at, ascii-wrote}
-use Rattle.laws.proofs.UnitEncodings.{ucs4-encoding}
+use Rattle.laws.proofs.UnitEncodings.{ucs4-below}
 use borrow.Author.Needs.{needs}
 use native.Mathlib.Omega.{arith}
 use Rattle.runs_from_utf_ebcdic.proofs.to_ucs4.copy8.Statement.{statement}
@@ -89,7 +89,7 @@ same-length : tie.Need-same-length Inv-loop μ-loop Inv-loop2 μ-loop2
 same-length c = c .before .loop2 .inv .same
 
 returns-2 : tie.Need-returns-2 Inv-loop μ-loop Inv-loop2 μ-loop2
-returns-2 c = let l = c .before .before .before .before .loop .inv in (omega arith, ascii-wrote (λ v h. ucs4-encoding v (omega arith)) (c .before .before .before .before .before .before .before .pre .1) (l .1) (c .before .before .if1 .left) (l .2) (c .before .before .before .loop-test .left) (c .before .loop2 .inv) (c .loop2-test .left))
+returns-2 c = let l = c .before .before .before .before .loop .inv in (omega arith, ascii-wrote (λ v h. ucs4-below v (omega arith)) (c .before .before .before .before .before .before .before .pre .1) (l .1) (c .before .before .if1 .left) (l .2) (c .before .before .before .loop-test .left) (c .before .loop2 .inv) (c .loop2-test .left))
 
 pub copy8-spec : {M : Type 1} → statement M
 copy8-spec =
