@@ -1,7 +1,8 @@
 //! Random texts, good and damaged, from a fixed seed.
 
 use crate::reference::{
-    is_surrogate, Form, FssUtf, Layout, Ucs4, Utf16, UtfEbcdic, FSS_UTF, HIGHEST_VALUE, I8, I8_TO_UTF_EBCDIC,
+    is_surrogate, Form, FssUtf, Layout, Ucs4, Utf16, UtfEbcdic, FSS_UTF, HIGHEST_VALUE, I8,
+    I8_TO_UTF_EBCDIC,
 };
 
 /// Every run draws the same texts.

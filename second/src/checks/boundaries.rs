@@ -5,8 +5,8 @@ use super::conversion::ToOthers;
 use super::{each_form, one_value};
 use crate::library::{JkItem, Linked};
 use crate::reference::{
-    exchanged, is_surrogate, Content, Form, FssUtf, Item, Layout, Reading, UtfEbcdic, FSS_UTF, HIGHEST_VALUE, I8,
-    I8_TO_UTF_EBCDIC,
+    exchanged, is_surrogate, Content, Form, FssUtf, Item, Layout, Reading, UtfEbcdic, FSS_UTF,
+    HIGHEST_VALUE, I8, I8_TO_UTF_EBCDIC,
 };
 use crate::report::Group;
 

@@ -10,7 +10,8 @@ use super::{character, from_i8, mark, one_character, one_value, three_ways};
 use crate::library::{Linked, CHARACTER};
 use crate::random::{Drawn, Random};
 use crate::reference::{
-    is_surrogate, Form, FssUtf, Role, Utf16, UtfEbcdic, FSS_UTF, I8, I8_TO_UTF_EBCDIC, UTF_EBCDIC_TO_I8,
+    is_surrogate, Form, FssUtf, Role, Utf16, UtfEbcdic, FSS_UTF, I8, I8_TO_UTF_EBCDIC,
+    UTF_EBCDIC_TO_I8,
 };
 use crate::report::{hex, Group};
 
@@ -643,10 +644,10 @@ fn report_table_4(group: &mut Group) {
     });
 }
 
-/// A value is read back from its encoding of this length.
+/// A value is read back from its shortest sequence, of this length.
 fn reads_back<F: ToOthers>(group: &mut Group, source: &str, value: u32, length: usize) {
-    let bytes: Vec<u32> = match F::encode(value) {
-        Some(legal) => legal.iter().map(|&unit| unit.into()).collect(),
+    let bytes: Vec<u32> = match F::shortest(value) {
+        Some(shortest) => shortest.iter().map(|&unit| unit.into()).collect(),
         None => Vec::new(),
     };
     group.check(bytes.len() == length, || {
@@ -656,7 +657,7 @@ fn reads_back<F: ToOthers>(group: &mut Group, source: &str, value: u32, length: 
             F::NAME
         )
     });
-    one_character::<F>(group, source, value, &bytes);
+    one_value::<F>(group, source, value, &bytes);
 }
 
 /// The annex's formats and its examples in binary and hexadecimal.

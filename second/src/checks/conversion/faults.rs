@@ -98,13 +98,7 @@ impl Marked for Ucs4 {
 const SURROGATES: [u32; 4] = [0xD800, 0xDBFF, 0xDC00, 0xDFFF];
 
 /// Characters that UTF-16 cannot hold.
-const NOT_IN_UTF_16: [u32; 5] = [
-    0x11_0000,
-    0x1F_FFFF,
-    0x20_0000,
-    0x400_0000,
-    0x7FFF_FFFF,
-];
+const NOT_IN_UTF_16: [u32; 5] = [0x11_0000, 0x1F_FFFF, 0x20_0000, 0x400_0000, 0x7FFF_FFFF];
 
 /// The faulty items of a pair: the form's marks, and characters that the target
 /// cannot hold.
