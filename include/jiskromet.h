@@ -1,6 +1,7 @@
 /* Jiskromet: a text converter between FSS-UTF, UTF-EBCDIC, UTF-16 and UCS-4 whose every function is proved.
  *
- * FSS-UTF is X/Open's of 1993, with values up to 7FFFFFFF; today's UTF-8 can be lent as it. UTF-EBCDIC is the draft of
+ * FSS-UTF is X/Open's of 1993, with values up to 7FFFFFFF; today's UTF-8 can be lent as it. The surrogate values D800 to
+ * DFFF are characters in no form: of UTF-16's units of these numbers two make a pair. UTF-EBCDIC is the draft of
  * Unicode Technical Report #16 of January 1999. The later report places 97 of the 256 bytes otherwise, and a host that
  * follows it misreads every letter outside ASCII: the degree sign is 47 BF here, and 80 57 there.
  *
@@ -39,10 +40,11 @@ enum jk_fault {
     JK_STRAY_TRAILING = 3,
     JK_INVALID_UNIT = 4,       /* FSS-UTF FE or FF; a UCS-4 unit of 80000000 or more */
     JK_OVERLONG = 5,
-    JK_UNREPRESENTABLE = 6,    /* UTF-16 for D800 to DFFF and above 10FFFF */
+    JK_UNREPRESENTABLE = 6,    /* UTF-16 as the target of a value above 10FFFF */
     JK_BUFFER_TOO_SHORT = 7,
     /* 8 is never used again: it was a value above 7FFFFFFF, which no text gives */
-    JK_OFFSET_OUT_OF_RANGE = 9
+    JK_OFFSET_OUT_OF_RANGE = 9,
+    JK_SURROGATE = 10          /* a value from D800 to DFFF in UCS-4, FSS-UTF or UTF-EBCDIC */
 };
 
 /* A fault in words, for a log or a panel. */
@@ -57,6 +59,7 @@ static inline const char *jk_fault_text(uint32_t fault) {
     case JK_UNREPRESENTABLE: return "the target form cannot hold the value";
     case JK_BUFFER_TOO_SHORT: return "a result buffer is too short for the whole result";
     case JK_OFFSET_OUT_OF_RANGE: return "the asked offset lies beyond the text";
+    case JK_SURROGATE: return "a surrogate value, D800 to DFFF, is no character";
     default: return "a fault that this header does not know";
     }
 }
@@ -92,7 +95,7 @@ typedef struct jk_conversion {
 
 /* Strict conversion. jk_F_to_G writes the text in the other form to the front of dst and leaves its rest untouched;
  * jk_F_to_G_length tells how many code units that takes, and gives no fault 7. A refusal (1; else the fault at the
- * lowest offset, 2 to 6; else 7) leaves all of dst as it was.
+ * lowest offset, 2 to 6 or 10; else 7) leaves all of dst as it was.
  *
  * JK_F_TO_G_ROOM(n) is the most code units that a text of n can take. It is a constant where n is one, it evaluates n
  * more than once, and from JK_MAX_UNITS on it stays the same, since longer texts are refused. */

@@ -7,6 +7,11 @@ use crate::reference::{I8_TO_UTF_EBCDIC, UTF_EBCDIC_TO_I8};
 type Read = Option<(u32, usize)>;
 
 #[inline(always)]
+fn is_surrogate(value: u32) -> bool {
+    (0xD800..=0xDFFF).contains(&value)
+}
+
+#[inline(always)]
 fn read_utf_ebcdic(src: &[u8], at: usize) -> Read {
     let first = UTF_EBCDIC_TO_I8[usize::from(src[at])];
     let (length, free, lowest) = match first {
@@ -27,7 +32,7 @@ fn read_utf_ebcdic(src: &[u8], at: usize) -> Read {
         }
         value = value << 5 | u32::from(trailing & 0x1F);
     }
-    (value >= lowest).then_some((value, length))
+    (value >= lowest && !is_surrogate(value)).then_some((value, length))
 }
 
 #[inline(always)]
@@ -49,7 +54,7 @@ fn read_fss_utf(src: &[u8], at: usize) -> Read {
         }
         value = value << 6 | u32::from(byte & 0x3F);
     }
-    (value >= lowest).then_some((value, length))
+    (value >= lowest && !is_surrogate(value)).then_some((value, length))
 }
 
 #[inline(always)]
@@ -69,7 +74,7 @@ fn read_utf16(src: &[u16], at: usize) -> Read {
 
 #[inline(always)]
 fn read_ucs4(src: &[u32], at: usize) -> Read {
-    (src[at] < 0x8000_0000).then_some((src[at], 1))
+    (src[at] < 0x8000_0000 && !is_surrogate(src[at])).then_some((src[at], 1))
 }
 
 /// Writes a value at the front of a buffer, and tells its length.
@@ -126,7 +131,6 @@ fn write_fss_utf(value: u32, dst: &mut [u8]) -> Written {
 #[inline(always)]
 fn write_utf16(value: u32, dst: &mut [u16]) -> Written {
     match value {
-        0xD800..=0xDFFF => None,
         0..=0xFFFF => {
             *dst.first_mut()? = value as u16;
             Some(1)

@@ -30,12 +30,15 @@ pub enum Fault {
     /// Fault 5: the sequence is longer than its value needs.
     Overlong = 5,
     /// Fault 6: the target cannot hold the value. Only a conversion to UTF-16
-    /// gives it, for D800 to DFFF and above 10FFFF.
+    /// gives it, above 10FFFF.
     Unrepresentable = 6,
     /// Fault 7: a result buffer is too short for the whole result.
     BufferTooShort = 7,
     /// Fault 9: the asked offset lies beyond the text.
     OffsetOutOfRange = 9,
+    /// Fault 10: a surrogate value, D800 to DFFF, in UCS-4, FSS-UTF or
+    /// UTF-EBCDIC.
+    Surrogate = 10,
 }
 
 impl Fault {
@@ -65,6 +68,7 @@ impl Fault {
             6 => Fault::Unrepresentable,
             7 => Fault::BufferTooShort,
             9 => Fault::OffsetOutOfRange,
+            10 => Fault::Surrogate,
             _ => return None,
         })
     }
@@ -81,6 +85,7 @@ impl fmt::Display for Fault {
             Fault::Unrepresentable => "the target form cannot hold the value",
             Fault::BufferTooShort => "a result buffer is too short for the whole result",
             Fault::OffsetOutOfRange => "the asked offset lies beyond the text",
+            Fault::Surrogate => "a surrogate value, D800 to DFFF, is no character",
         })
     }
 }

@@ -1,8 +1,8 @@
 //! Texts in FSS-UTF of X/Open (1993), as rack controllers send them: bytes, one to
-//! six for each value from 0 to 7FFFFFFF.
+//! six for each value from 0 to 7FFFFFFF but D800 to DFFF.
 //!
 //! Today's UTF-8 is a part of it, so that every `str` is good FSS-UTF, with the
-//! same characters. FSS-UTF has more: D800 to DFFF, and all above 10FFFF.
+//! same characters. FSS-UTF has more: all above 10FFFF.
 //!
 //! ```
 //! use jiskromet::{fss_utf, utf_ebcdic, Fault, Refusal};

@@ -67,9 +67,9 @@ impl Item {
 /// What an item is.
 #[derive(Clone, Copy, Debug, PartialEq, Eq, Hash)]
 pub enum Content {
-    /// A character, with its value from 0 to 7FFFFFFF. UCS-4, FSS-UTF and
-    /// UTF-EBCDIC carry values that a `char` does not, D800 to DFFF and above
-    /// 10FFFF; `char::from_u32` tells them apart.
+    /// A character, with its value from 0 to 7FFFFFFF, but not from D800 to
+    /// DFFF. UCS-4, FSS-UTF and UTF-EBCDIC carry values above 10FFFF, which a
+    /// `char` does not; `char::from_u32` tells them apart.
     Character(u32),
     /// Code units that are no character, with the fault that says why.
     Mark(Fault),

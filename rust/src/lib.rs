@@ -83,8 +83,8 @@
 //!   refused. A result may be longer, and can then not be read again.
 //! - Offsets and lengths are in code units: bytes in FSS-UTF and UTF-EBCDIC,
 //!   `u16` in UTF-16, `u32` in UCS-4. Byte order plays no part.
-//! - Every `str` is good FSS-UTF, but not every FSS-UTF text a `str`: it has D800
-//!   to DFFF and all up to 7FFFFFFF besides.
+//! - Every `str` is good FSS-UTF, but not every FSS-UTF text a `str`: it has the
+//!   values from 110000 to 7FFFFFFF besides.
 //! - The archive is for x86-64 Linux.
 
 #![deny(missing_docs)]

@@ -1,5 +1,5 @@
 //! Texts in UCS-4, as the gateway works in them: `u32` units, one for each value
-//! from 0 to 7FFFFFFF.
+//! from 0 to 7FFFFFFF but D800 to DFFF.
 //!
 //! ```
 //! use jiskromet::{ucs4, utf16, Fault, Refusal};
@@ -13,6 +13,12 @@
 //! assert_eq!(
 //!     ucs4::to_utf16_vec(&[0x10_FFFF, 0x11_0000]),
 //!     Err(Refusal { fault: Fault::Unrepresentable, offset: 1 })
+//! );
+//!
+//! // A unit of UTF-16 that was taken for a value.
+//! assert_eq!(
+//!     ucs4::to_fss_utf_vec(&[0x34, 0xD83D, 0xDD25]),
+//!     Err(Refusal { fault: Fault::Surrogate, offset: 1 })
 //! );
 //! # Ok::<(), Refusal>(())
 //! ```

@@ -1,6 +1,6 @@
 //! Texts in UTF-EBCDIC of the draft Unicode Technical Report #16 (January 1999),
 //! as EBCDIC hosts take them: bytes, one to seven for each value from 0 to
-//! 7FFFFFFF.
+//! 7FFFFFFF but D800 to DFFF.
 //!
 //! Letters, digits and controls are single bytes at their EBCDIC places: A is C1,
 //! 0 is F0.

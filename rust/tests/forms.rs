@@ -299,8 +299,10 @@ fn fss_utf_converts() {
     panel.gives(FSS_UTF, UTF16);
     gateway.gives(FSS_UTF, UCS4);
     gateway.gives(
-        &[0xED, 0xA0, 0x80, 0xFD, 0xBF, 0xBF, 0xBF, 0xBF, 0xBF],
-        &[0xD800, 0x7FFF_FFFF],
+        &[
+            0xED, 0x9F, 0xBF, 0xEE, 0x80, 0x80, 0xFD, 0xBF, 0xBF, 0xBF, 0xBF, 0xBF,
+        ],
+        &[0xD7FF, 0xE000, 0x7FFF_FFFF],
     );
 
     host.fills(&[0xDF, 0xBF]);
@@ -313,19 +315,21 @@ fn fss_utf_converts() {
 
 #[test]
 fn fss_utf_refuses() {
-    let cases: [(&[u8], Fault, usize); 5] = [
+    let cases: [(&[u8], Fault, usize); 7] = [
         (&[0x41, 0xE2, 0x89, 0x41], Fault::MissingTrailing, 1),
         (&[0xC2, 0xA9, 0x80], Fault::StrayTrailing, 2),
         (&[0x41, 0x42, 0xFE], Fault::InvalidUnit, 2),
         (&[0xC0, 0x80, 0xFF], Fault::Overlong, 0),
         (&[0xFC], Fault::MissingTrailing, 0),
+        (&[0x41, 0xED, 0xA0, 0x80], Fault::Surrogate, 1),
+        (&[0xF0, 0x8D, 0xA0, 0x80], Fault::Overlong, 0),
     ];
     for (text, fault, offset) in cases {
         to_utf_ebcdic!(fss_utf).refuses(text, fault, offset);
         to_utf16!(fss_utf).refuses(text, fault, offset);
         to_ucs4!(fss_utf).refuses(text, fault, offset);
     }
-    to_utf16!(fss_utf).refuses(&[0xED, 0xA0, 0x80], Fault::Unrepresentable, 0);
+    to_utf16!(fss_utf).refuses(&[0xF4, 0x90, 0x80, 0x80], Fault::Unrepresentable, 0);
 }
 
 #[test]
@@ -381,11 +385,12 @@ fn utf_ebcdic_converts() {
 
 #[test]
 fn utf_ebcdic_refuses() {
-    let cases: [(&[u8], Fault, usize); 4] = [
+    let cases: [(&[u8], Fault, usize); 5] = [
         (&[0xF4, 0x9A, 0x80, 0xC1], Fault::MissingTrailing, 1),
         (&[0x47, 0x80, 0x80], Fault::StrayTrailing, 2),
         (&[0xC1, 0x8A, 0xFE, 0xFE], Fault::Overlong, 1),
         (&[0xE1], Fault::MissingTrailing, 0),
+        (&[0xC1, 0xB3, 0xDD, 0x80, 0x80], Fault::Surrogate, 1),
     ];
     for (text, fault, offset) in cases {
         to_fss_utf!(utf_ebcdic).refuses(text, fault, offset);
@@ -490,7 +495,7 @@ fn ucs4_converts() {
     controller.gives(UCS4, FSS_UTF);
     host.gives(UCS4, UTF_EBCDIC);
     panel.gives(UCS4, UTF16);
-    controller.gives(&[0xD800], &[0xED, 0xA0, 0x80]);
+    controller.gives(&[0xD7FF, 0xE000], &[0xED, 0x9F, 0xBF, 0xEE, 0x80, 0x80]);
 
     controller.fills(&[0x7FFF_FFFF]);
     host.fills(&[0x7FFF_FFFF]);
@@ -507,7 +512,12 @@ fn ucs4_refuses() {
         to_utf_ebcdic!(ucs4).refuses(&[0x41, unit], Fault::InvalidUnit, 1);
         to_utf16!(ucs4).refuses(&[0x41, unit], Fault::InvalidUnit, 1);
     }
-    for value in [0xD800, 0xDFFF, 0x11_0000, 0x7FFF_FFFF] {
+    for value in [0xD800, 0xDFFF] {
+        to_fss_utf!(ucs4).refuses(&[0x41, value], Fault::Surrogate, 1);
+        to_utf_ebcdic!(ucs4).refuses(&[0x41, value], Fault::Surrogate, 1);
+        to_utf16!(ucs4).refuses(&[0x41, value], Fault::Surrogate, 1);
+    }
+    for value in [0x11_0000, 0x7FFF_FFFF] {
         to_utf16!(ucs4).refuses(&[0x41, 0x42, value], Fault::Unrepresentable, 2);
     }
 }
@@ -529,7 +539,7 @@ fn ucs4_reads() {
         &[
             character(1, 0x7FFF_FFFF),
             mark(1, Fault::InvalidUnit),
-            character(1, 0xD800),
+            mark(1, Fault::Surrogate),
             mark(1, Fault::InvalidUnit),
         ],
     );

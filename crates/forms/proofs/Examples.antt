@@ -175,6 +175,7 @@ conversions =
     converts fssUtf utf16 (0x41 ∷ 0xF0 ∷ 0x90 ∷ 0x80 ∷ 0x80 ∷ []) (7 ∷ 7 ∷ []) (Refused (refusal BufferTooShort 0)) (7 ∷ 7 ∷ []) ∷
     converts fssUtf utf16 (0x41 ∷ 0xED ∷ 0xA0 ∷ 0x80 ∷ 0xED ∷ 0xB0 ∷ 0x80 ∷ []) (7 ∷ []) (Refused (refusal Surrogate 1)) (7 ∷ []) ∷
     converts fssUtf utf16 (0x41 ∷ 0xC0 ∷ 0x80 ∷ 0xED ∷ 0xA0 ∷ 0x80 ∷ []) (7 ∷ []) (Refused (refusal Overlong 1)) (7 ∷ []) ∷
+    converts utfEbcdic utf16 (0xB3 ∷ 0xDD ∷ 0x80 ∷ 0x80 ∷ 0xC1 ∷ []) (7 ∷ []) (Refused (refusal Surrogate 0)) (7 ∷ []) ∷
     converts ucs4 utf16 (0xD800 ∷ 0x110000 ∷ []) [] (Refused (refusal Surrogate 0)) [] ∷
     converts ucs4 utf16 (0x110000 ∷ 0x80000000 ∷ []) [] (Refused (refusal Unrepresentable 0)) [] ∷
     converts utf16 utfEbcdic (0x0A ∷ 0x3FFF ∷ []) (7 ∷ 7 ∷ 7 ∷ 7 ∷ []) (Units 4) (0x25 ∷ 0xFB ∷ 0xFE ∷ 0xFE ∷ []) ∷

@@ -2,6 +2,7 @@
 use Prim.Native.Nat.{ℕ, _≤_, _<_}
 use mathlib.Core.Path.{_≡_, refl, sym, _∙_}
 use mathlib.Core.Logic.{_≢_}
+use mathlib.Core.Bool.{false}
 use mathlib.Core.List.{List, [], _∷_}
 use mathlib.Core.Option.{Option, none, some}
 use native.Mathlib.Omega.{arith}
@@ -9,7 +10,7 @@ use native.Mathlib.Decide.{decLt}
 use Rattle.types.specs.declared.Fault.{Fault}
 use Rattle.types.specs.declared.Fault.the-variants.{Surrogate}
 use Rattle.forms.specs.Form.{Form, sequence, unless, encode}
-use Rattle.forms.specs.Forms.{noCharacter, ucs4}
+use Rattle.forms.specs.Forms.{isSurrogate, noCharacter, ucs4}
 use Rattle.laws.proofs.FormLaws.{Laws}
 use Rattle.laws.proofs.Rows.{within-in, within-below, within-above}
 use Rattle.laws.proofs.FourForms.{ucs4-laws}
@@ -27,12 +28,15 @@ free-below v h = rw (within-below 0xD800 0xDFFF v h)
 pub free-above : (v : ℕ) → 0xE000 ≤ v → noCharacter v ≡ none
 free-above v h = rw (within-above 0xD800 0xDFFF v (omega arith))
 
-pub free-outside : (v : ℕ) → (0xD800 ≤ v → 0xE000 ≤ v) → noCharacter v ≡ none
-free-outside v o = go (decLt v 0xD800)
+pub not-surrogate : (v : ℕ) → (0xD800 ≤ v → 0xE000 ≤ v) → isSurrogate v ≡ false
+not-surrogate v o = go (decLt v 0xD800)
   where
-    go : Dec (v < 0xD800) → noCharacter v ≡ none
-    go (yes h) = free-below v h
-    go (no h) = free-above v (o (omega arith))
+    go : Dec (v < 0xD800) → isSurrogate v ≡ false
+    go (yes h) = within-below 0xD800 0xDFFF v h
+    go (no h) = let k = o (omega arith) in within-above 0xD800 0xDFFF v (omega arith)
+
+pub free-outside : (v : ℕ) → (0xD800 ≤ v → 0xE000 ≤ v) → noCharacter v ≡ none
+free-outside v o = rw (not-surrogate v o)
 
 pub outside : (v : ℕ) → noCharacter v ≡ none → 0xD800 ≤ v → 0xE000 ≤ v
 outside v e h = go (decLt v 0xE000)

@@ -1,17 +1,21 @@
 -- Characters of one code unit of UTF-16 and UCS-4, by the tests that the blocks of a lossy decoding make.
-use Prim.Native.Nat.{ℕ, _<_}
+use Prim.Native.Nat.{ℕ, _+_, _<_}
 use mathlib.Core.Path.{_≡_, refl, sym, _∙_}
 use mathlib.Core.Bool.{Bool, true, false, _&&_, _||_}
 use mathlib.Core.List.{List}
 use native.Mathlib.Omega.{arith}
+use borrow.Author.Count.{below-more}
 use borrow.Author.Tests.{le-leb, leb-false, ltb-true, ltb-false}
 use lib.Dec.{leb, ltb}
-use lib.ListN.{length, getD}
+use lib.ListN.{length, getD, set}
+use lib.Seq.{getD-set-same, getD-set-other}
 use Rattle.forms.specs.Form.{span}
 use Rattle.forms.specs.Forms.{isSurrogate, utf16, ucs4}
+use Rattle.laws.proofs.Rows.{within-below}
 use Rattle.laws.proofs.Progress.{CharacterAt}
 use Rattle.items.proofs.WholeUnits.{ucs4-character}
 use Rattle.characters.proofs.Shorts.{unit-below, unit-above}
+use Rattle.lossy_runs.specs.Ucs4Units.{Carried, AllCarried}
 
 pub or-false-left : (a b : Bool) → (a || b) ≡ false → a ≡ false
 or-false-left false b e = refl
@@ -21,10 +25,40 @@ pub or-false-right : (a b : Bool) → (a || b) ≡ false → b ≡ false
 or-false-right false b e = e
 or-false-right true b e = absurd (let z : _≡_ {A = ℕ} 0 1 = cc in omega arith)
 
--- of three tests the last two
-pub apart : (a b c : Bool) → ((a || b) || c) ≡ false → (b || c) ≡ false
-apart false b c e = e
-apart true b c e = absurd (let z : _≡_ {A = ℕ} 0 1 = cc in omega arith)
+-- what the tests of a UCS-4 unit say
+pub below-carried : {u : ℕ} → u < 0xD800 → Carried u
+below-carried {u} h = record { small = omega arith; character = within-below 0xD800 0xDFFF u h }
+
+pub tested-carried : {u : ℕ} {gap : Bool} → gap ≡ isSurrogate u → gap ≡ false → leb 0x80000000 u ≡ false → Carried u
+tested-carried {u} is e l = record { small = leb-false 0x80000000 u l; character = sym is ∙ e }
+
+-- a loop over a block, by what says that it found no other
+pub record CarriedIf (P : Type 0) (b : List ℕ) (k : ℕ) : Type 0 where
+  pub all : P → AllCarried b k
+
+pub carried-none : {P : Type 0} {b : List ℕ} → CarriedIf P b 0
+carried-none = record { all = λ e. record { each = λ j h. absurd (omega arith) } }
+
+pub carried-more : {P Q : Type 0} {b : List ℕ} {k : ℕ} → CarriedIf P b k → (Q → P) → (Q → Carried (getD b k 0)) → CarriedIf Q b (k + 1)
+carried-more {P} {Q} {b} {k} c before here =
+    record { all = λ e. record { each = below-more (λ (j : ℕ). Carried (getD b j 0)) k (c .all (before e) .each) (here e) } }
+
+-- the units of a block as they come in: the next is put behind the first k
+module _ (b : List ℕ) (k x : ℕ) (h : k < length b) where
+  same-before : (j : ℕ) → j < k → getD (set b k x) j 0 ≡ getD b j 0
+  same-before j l = getD-set-other b k j x 0 (λ z. omega (arith, z))
+
+  pub carried-before : AllCarried (set b k x) (k + 1) → AllCarried b k
+  carried-before a = record { each = λ j l. let e = same-before j l in rw e at (a .each j (omega arith)) }
+
+  pub carried-last : AllCarried (set b k x) (k + 1) → Carried x
+  carried-last a = rw (getD-set-same b k x 0 h) at (a .each k (omega arith))
+
+  pub carried-put : AllCarried b k → Carried x → AllCarried (set b k x) (k + 1)
+  carried-put a c =
+      record {
+        each = below-more (λ (j : ℕ). Carried (getD (set b k x) j 0)) k (λ j l. rw (same-before j l) (a .each j l)) (rw (getD-set-same b k x 0 h) c);
+      }
 
 module _ {s : List ℕ} {p : ℕ} where
   -- no surrogate
@@ -39,10 +73,8 @@ module _ {s : List ℕ} {p : ℕ} where
           (let w : (leb 0xD800 x && ltb x 0xE000) ≡ true = rw (le-leb 0xD800 x (ltb-false x 0xD800 f), g) in
           let z : _≡_ {A = ℕ} 0 1 = cc (sym w ∙ t) in omega arith)
 
-  -- nor beyond what a unit may be
-  pub ucs4-unit :
-      {x : ℕ} {gap : Bool} → p < length s → x ≡ getD s p 0 → gap ≡ isSurrogate (getD s p 0) → (gap || leb 0x80000000 (getD s p 0)) ≡ false → CharacterAt ucs4 s p x (span p 1)
-  ucs4-unit {x} {gap} h e is t =
-      let u = getD s p 0 in
-      let free : isSurrogate u ≡ false = sym is ∙ or-false-left gap (leb 0x80000000 u) t in
-      record { inside = h; is = rw e (ucs4-character s p (leb-false 0x80000000 u (or-false-right gap (leb 0x80000000 u) t)) (rw free)) }
+  pub ucs4-unit : {x : ℕ} → p < length s → x ≡ getD s p 0 → Carried x → CharacterAt ucs4 s p x (span p 1)
+  ucs4-unit {x} h e c =
+      let small = rw e at (c .small) in
+      let free = rw e at (c .character) in
+      record { inside = h; is = rw e (ucs4-character s p small (rw free)) }

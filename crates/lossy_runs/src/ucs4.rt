@@ -1,8 +1,40 @@
 // UCS-4.
 use crate::Read;
+ghost use mathlib.Core.Path.{_≡_};
+ghost use mathlib.Core.Bool.{false};
+ghost use Prim.Native.Nat.{_<_};
 ghost use lib.ListN.{length};
 ghost use Rattle.forms.specs.Forms.{ucs4};
 ghost use Rattle.lossy_runs.specs.ReadOn.{Room, ReadOn};
+ghost use Rattle.lossy_runs.specs.Ucs4Units.{Carried, AllCarried};
+
+// Whether a unit is no character: most lie below the surrogates.
+fn is_mark(unit: u32) -> bool
+    ensures { λ r. ⌜ (r ≡ false → Carried unit) ⌝ }
+{
+    if unit < 0xD800 {
+        return false;
+    }
+    items::is_surrogate(unit) | (unit >= 0x80000000)
+}
+
+// The same of a block, whose units joined by OR are given: without a branch, so that it is compiled to vector code.
+fn has_mark(block: &[u32; 16], all: u32) -> bool
+    requires { ⌜ (all < 0xD800 → AllCarried (now block) 16) ⌝ }
+    ensures { λ r. ⌜ (r ≡ false → AllCarried (now (block .entry)) 16) ⌝ }
+{
+    if all < 0xD800 {
+        return false;
+    }
+    let mut bad = false;
+    let mut k: usize = 0;
+    while k < 16 {
+        let unit = block[k];
+        bad = bad | items::is_surrogate(unit) | (unit >= 0x80000000);
+        k += 1;
+    }
+    bad
+}
 
 // A block of characters, where it is one.
 fn block_at(text: &[u32], at: usize, values: &mut [u32], starts: &mut [u32], items: usize) -> Read
@@ -13,15 +45,15 @@ fn block_at(text: &[u32], at: usize, values: &mut [u32], starts: &mut [u32], ite
         return Read { at, items };
     }
     let mut block = [0u32; 16];
-    let mut bad = false;
+    let mut all: u32 = 0;
     let mut j: usize = 0;
     while j < 16 {
         let unit = text[at + j];
         block[j] = unit;
-        bad = bad | items::is_surrogate(unit) | (unit >= 0x80000000);
+        all = all | unit;
         j += 1;
     }
-    if bad {
+    if has_mark(&block, all) {
         return Read { at, items };
     }
     let mut k: usize = 0;
@@ -46,7 +78,7 @@ fn some_at(text: &[u32], at: usize, values: &mut [u32], starts: &mut [u32], item
     let mut cell = items;
     while to < stop {
         let unit = text[to];
-        if items::is_surrogate(unit) | (unit >= 0x80000000) {
+        if is_mark(unit) {
             break;
         }
         values[cell] = unit;

@@ -12,7 +12,8 @@ use lib.ListN.{length, getD}
 use borrow.Author.Tests.{le-leb, lt-leb, le-ltb, lt-ltb}
 use Rattle.forms.specs.Form.{encode}
 use Rattle.forms.specs.Forms.{isSurrogate, utf16, fssUtf, utfEbcdic, ucs4}
-use Rattle.laws.proofs.Rows.{within-in, within-below, within-above}
+use Rattle.laws.proofs.Rows.{within-in}
+use Rattle.laws.proofs.Carried.{not-surrogate}
 use Rattle.laws.proofs.Runs.{Counted, sum, sum-zero, sum-more, Next, between}
 use Rattle.laws.proofs.Blocks.{AtMost}
 use Rattle.laws.proofs.Values.{sum-ones}
@@ -123,13 +124,6 @@ surrogate-reaches u = go (decLt u 0x800)
 
 surrogate-two : (u : ℕ) → 0xD800 ≤ u → u < 0xE000 → 1 + number (leb 0x80 u) + number (leb 0x800 u) - number (isSurrogate u) ≡ 2
 surrogate-two u h l = rw (le-leb 0x80 u (omega arith), le-leb 0x800 u (omega arith), within-in 0xD800 0xDFFF u h (omega arith))
-
-not-surrogate : (u : ℕ) → (0xD800 ≤ u → 0xE000 ≤ u) → isSurrogate u ≡ false
-not-surrogate u o = go (decLt u 0xD800)
-  where
-    go : Dec (u < 0xD800) → isSurrogate u ≡ false
-    go (yes h) = within-below 0xD800 0xDFFF u h
-    go (no h) = let l = o (omega arith) in within-above 0xD800 0xDFFF u (omega arith)
 
 unit-bytes : (u : ℕ) → u < 0x10000 → (0xD800 ≤ u → 0xE000 ≤ u) → (n : ℕ) × (1 + number (leb 0x80 u) + number (leb 0x800 u) - number (isSurrogate u) ≡ 1 + n) × (length (encode fssUtf u) ≡ 1 + n)
 unit-bytes u h o = go (decLt u 0x80) (decLt u 0x800)

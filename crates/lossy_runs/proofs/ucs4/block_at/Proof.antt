@@ -1,38 +1,41 @@
-use Prim.Native.Nat.{_+_, _-_}
-use mathlib.Core.Path.{_≡_, refl}
-use mathlib.Core.Bool.{false, _||_}
+use Prim.Native.Nat.{_+_, _-_, _<_}
+use mathlib.Core.Path.{refl}
 use native.Mathlib.Omega.{arith}
 use borrow.Author.Needs.{needs}
-use lib.Dec.{leb}
-use lib.ListN.{getD}
+use lib.ListN.{length, getD}
 use denote.Ref.{now}
 use Rattle.forms.specs.Forms.{ucs4}
-use Rattle.lossy_runs.proofs.Units.{or-false-left, apart, ucs4-unit}
+use Rattle.characters.proofs.Shorts.{or-left, or-right}
+use Rattle.lossy_runs.specs.Ucs4Units.{AllCarried}
+use Rattle.lossy_runs.proofs.Units.{CarriedIf, carried-none, carried-before, carried-last, carried-put, below-carried, ucs4-unit}
 use Rattle.lossy_runs.proofs.ReadingOn.{Copied, copied-none, copied-more, copied-all, read-none, read-block, block-room, Singles, Loading, loading-none, loading-more, loading-all}
 use Rattle.lossy_runs.proofs.ucs4.block_at.Statement.{statement}
 use Rattle.lossy_runs.proofs.ucs4.block_at.Tie as tie
 
 abbrev Inv-loop : tie.InvT-loop
-Inv-loop text at values starts items block₀ bad₀ j₀ block bad j = Loading ucs4 text at j block (bad ≡ false)
+Inv-loop text at values starts items block₀ all₀ j₀ block all j = Loading ucs4 text at j block (AllCarried block j) × CarriedIf (all < 0xD800) block j
 
 abbrev μ-loop : tie.MeasureT-loop
-μ-loop text at values starts items block₀ bad₀ j₀ block bad j = 16 - j
+μ-loop text at values starts items block₀ all₀ j₀ block all j = 16 - j
 
 abbrev Inv-loop2 : tie.InvT-loop2
-Inv-loop2 text at values₀ starts items block bad j k₀ values k = Copied values₀ items block k values
+Inv-loop2 text at values₀ starts items block all j k₀ values k = Copied values₀ items block k values
 
 abbrev μ-loop2 : tie.MeasureT-loop2
-μ-loop2 text at values₀ starts items block bad j k₀ values k = 16 - k
+μ-loop2 text at values₀ starts items block all j k₀ values k = 16 - k
 
 -- behind the test of the block
 abbrev Tested : Type 0
 Tested = tie.Else2 Inv-loop μ-loop Inv-loop2 μ-loop2
 
 abbrev begun : Tested → tie.Start Inv-loop μ-loop Inv-loop2 μ-loop2
-begun c = c .before .before .before .before .before .before .before
+begun c = c .before .before .before .before .before .before .before .before .before
 
-whole : (c : Tested) → Singles ucs4 (now (begun c .args .text)) (begun c .args .at) 16 (c .before .before .loop .block)
-whole c = loading-all (c .before .before .loop .inv) (c .before .loop-test .left) (c .if2 .left)
+whole : (c : Tested) → Singles ucs4 (now (begun c .args .text)) (begun c .args .at) 16 (c .before .before .before .before .loop .block)
+whole c =
+    let l = c .before .before .before .before .loop in
+    loading-all (l .inv .0) (c .before .before .before .loop-test .left)
+    (record { each = λ k h. c .before .has-mark .ensures (c .if2 .left) .each k (omega (arith, h, l .inv .0 .most)) })
 
 sub-if1 : tie.Need-sub-if1 Inv-loop μ-loop Inv-loop2 μ-loop2
 sub-if1 c = c .before .before .before .pre .within
@@ -41,7 +44,7 @@ returns : tie.Need-returns Inv-loop μ-loop Inv-loop2 μ-loop2
 returns c = read-none (c .before .before .before .before .pre .within)
 
 loop-holds : tie.Need-loop-holds Inv-loop μ-loop Inv-loop2 μ-loop2
-loop-holds c = loading-none (c .before .before .before .before .pre .within) refl
+loop-holds c = (loading-none (c .before .before .before .before .pre .within) refl, carried-none)
 
 add-unit : tie.Need-add-unit Inv-loop μ-loop Inv-loop2 μ-loop2
 add-unit c = search needs
@@ -51,9 +54,6 @@ mul-unit c = search needs
 
 shared-slice-read-unit : tie.Need-shared-slice-read-unit Inv-loop μ-loop Inv-loop2 μ-loop2
 shared-slice-read-unit c = search needs
-
-is-surrogate-requires : tie.Need-is-surrogate-requires Inv-loop μ-loop Inv-loop2 μ-loop2
-is-surrogate-requires c κs = search needs
 
 mul-block : tie.Need-mul-block Inv-loop μ-loop Inv-loop2 μ-loop2
 mul-block c = search needs
@@ -69,15 +69,25 @@ loop-less c = search needs
 
 loop-again : tie.Need-loop-again Inv-loop μ-loop Inv-loop2 μ-loop2
 loop-again c =
-    let l = c .before .before .before .loop in
-    let z = c .before .before .before .before .before .before .before .before .args in
+    let l = c .before .before .loop in
+    let z = c .before .before .before .before .before .before .before .args in
     let x = getD (now (z .text)) (z .at + l .j) 0 in
-    let gap = c .is-surrogate .result in
-    loading-more (l .inv) (c .before .before .loop-test .taken) (λ q. or-false-left (l .bad) gap (or-false-left (l .bad || gap) (leb 0x80000000 x) q))
-    (λ q. ucs4-unit (omega arith) refl (c .is-surrogate .ensures) (apart (l .bad) gap (leb 0x80000000 x) q))
+    let h = c .before .loop-test .taken in
+    let k : l .j < length (l .block) = omega (arith, h, l .inv .0 .long) in (
+      loading-more (l .inv .0) h (carried-before (l .block) (l .j) x k) (λ q. ucs4-unit (omega arith) refl (carried-last (l .block) (l .j) x k q)),
+      record {
+        all =
+            λ q. carried-put (l .block) (l .j) x k (l .inv .1 .all (omega (arith, q, or-left (l .all) x))) (below-carried (omega (arith, q, or-right (l .all) x)));
+      },
+    )
+
+has-mark-requires : tie.Need-has-mark-requires Inv-loop μ-loop Inv-loop2 μ-loop2
+has-mark-requires c κs =
+    let l = c .before .before .loop in
+    λ q. record { each = λ j h. l .inv .1 .all q .each j (omega (arith, c .before .loop-test .left)) }
 
 returns-2 : tie.Need-returns-2 Inv-loop μ-loop Inv-loop2 μ-loop2
-returns-2 c = read-none (c .before .before .before .before .before .before .before .pre .within)
+returns-2 c = read-none (c .before .before .before .before .before .before .before .before .before .pre .within)
 
 loop2-holds : tie.Need-loop2-holds Inv-loop μ-loop Inv-loop2 μ-loop2
 loop2-holds c = copied-none
@@ -106,7 +116,7 @@ loop2-less c = search needs
 loop2-again : tie.Need-loop2-again Inv-loop μ-loop Inv-loop2 μ-loop2
 loop2-again c =
     let t = c .before .before in
-    copied-more (c .before .loop2 .inv) (block-room (begun t .pre) (whole t) .0) (t .before .before .loop .inv .long) (c .loop2-test .taken) refl
+    copied-more (c .before .loop2 .inv) (block-room (begun t .pre) (whole t) .0) (t .before .before .before .before .loop .inv .0 .long) (c .loop2-test .taken) refl
 
 put-offsets-requires : tie.Need-put-offsets-requires Inv-loop μ-loop Inv-loop2 μ-loop2
 put-offsets-requires c κs =
@@ -128,7 +138,7 @@ same-length-2 c = c .before .before .put-offsets .kept .1 .0
 returns-3 : tie.Need-returns-3 Inv-loop μ-loop Inv-loop2 μ-loop2
 returns-3 c =
     let t = c .before .before .before .before .before .before in
-    let l = t .before .before .loop .inv .long in
+    let l = t .before .before .before .before .loop .inv .0 .long in
     read-block (begun t .pre) (whole t) l (copied-all (c .before .before .before .before .before .loop2 .inv) l (c .before .before .before .before .loop2-test .left)) (c .before .before .put-offsets .ensures)
 
 pub block-at-spec : {M : Type 1} → statement M
@@ -147,10 +157,10 @@ block-at-spec =
     shared-slice-read-unit
     mul-block
     array-write-block
-    is-surrogate-requires
     add-j
     loop-less
     loop-again
+    has-mark-requires
     returns-2
     loop2-holds
     mul-values

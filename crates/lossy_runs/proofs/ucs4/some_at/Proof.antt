@@ -35,7 +35,7 @@ abbrev unit : Short → ℕ
 unit c = getD (now (start c .args .text)) (loop c .loop .to) 0
 
 here : (c : Short) → CharacterAt ucs4 (now (start c .args .text)) (loop c .loop .to) (unit c) (span (loop c .loop .to) 1)
-here c = ucs4-unit (omega (arith, c .before .before .before .loop-test .taken, loop c .before .stop-at .ensures)) refl (c .before .is-surrogate .ensures) (c .if1 .left)
+here c = ucs4-unit (omega (arith, c .before .before .before .loop-test .taken, loop c .before .stop-at .ensures)) refl (c .before .is-mark .ensures (c .if1 .left))
 
 abbrev read : (c : Short) → ItemAt ucs4 (now (start c .args .text)) (loop c .loop .to) (Character (unit c) (span (loop c .loop .to) 1)) (span (loop c .loop .to) 1)
 read c = character-item (here c)
@@ -52,8 +52,8 @@ mul-unit c = search needs
 shared-slice-read-unit : tie.Need-shared-slice-read-unit Inv-loop μ-loop
 shared-slice-read-unit c = omega (arith, c .before .loop-test .taken, c .before .before .before .stop-at .ensures)
 
-is-surrogate-requires : tie.Need-is-surrogate-requires Inv-loop μ-loop
-is-surrogate-requires c κs = search needs
+is-mark-requires : tie.Need-is-mark-requires Inv-loop μ-loop
+is-mark-requires c κs = search needs
 
 mul-values : tie.Need-mul-values Inv-loop μ-loop
 mul-values c = search needs
@@ -110,7 +110,7 @@ some-at-spec =
     loop-holds
     mul-unit
     shared-slice-read-unit
-    is-surrogate-requires
+    is-mark-requires
     mul-values
     slice-write-values
     cast-starts
