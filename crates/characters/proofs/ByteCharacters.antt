@@ -1,6 +1,6 @@
 -- Characters of either byte form by their bytes: read in the layout's own text, from the lead's free bits and those of the bytes behind it.
-use Prim.Native.Nat.{ℕ, zero, suc, _+_, _*_, _-_, _^_, _≤_, _<_}
-use mathlib.Core.Path.{_≡_, refl, sym, ap, _∙_}
+use Prim.Native.Nat.{ℕ, _+_, _*_, _-_, _^_, _≤_, _<_}
+use mathlib.Core.Path.{_≡_, refl, sym, _∙_}
 use mathlib.Core.List.{List, [], _∷_, _++_}
 use mathlib.Core.Option.{none}
 use native.Mathlib.Omega.{arith}
@@ -8,8 +8,8 @@ use native.Mathlib.Nat.{pow-zero, pow-succ', mul-one, mul-assoc, add-mul, add-as
 use lib.Bits.{bitOr}
 use lib.ListN.{length, getD, drop}
 use Rattle.types.specs.declared.Span.{Span}
-use Rattle.forms.specs.Form.{Form, firstOf, itemOf, span}
-use Rattle.forms.specs.Layout.{Layout, rowAt, number, lowestOf, formOf}
+use Rattle.forms.specs.Form.{firstOf, itemOf}
+use Rattle.forms.specs.Layout.{rowAt, number, lowestOf, formOf}
 use Rattle.forms.specs.Forms.{noCharacter}
 use Rattle.laws.proofs.Digits.{IsDigit, AllDigits}
 use Rattle.laws.proofs.Progress.{CharacterAt}

@@ -1,22 +1,21 @@
 -- A sequence written from its last unit to its first: what the loop keeps, how a turn changes it, and what it comes to.
 use Prim.Native.Nat.{ℕ, zero, suc, _+_, _-_, _*_, _/_, _%_, _^_, _≤_, _<_}
-use mathlib.Core.Path.{_≡_, refl, sym, ap, _∙_, subst}
+use mathlib.Core.Path.{_≡_, sym, ap, _∙_}
 use mathlib.Core.Logic.{_≢_}
-use mathlib.Core.List.{List, [], _∷_, _++_, map, append-assoc, append-nil, map-append}
+use mathlib.Core.List.{List, [], _∷_, _++_, map, append-nil}
 use native.Mathlib.Omega.{arith}
 use native.Mathlib.Nat.{pow-suc, pow-zero, mul-one, mul-assoc, mul-le-mul-right, div-lt-iff-lt-mul, div-one}
 use native.Mathlib.Numerals.{add-one}
-use lib.ListN.{length, take, drop, set, getD, length-append, length-drop, length-map, length-set, take-append-drop}
+use lib.ListN.{length, take, drop, set, getD, length-append, length-drop, length-map, take-append-drop}
 use lib.Seq.{take-suc, set-at, append-snoc, length-take-le}
 use Rattle.forms.specs.Form.{encode}
 use Rattle.forms.specs.Layout.{rowAt}
 use Rattle.forms.specs.Buffer.{withUnits}
 use Rattle.tables.specs.ByteForms.{byteForm, layoutOf, unitOf}
 use Rattle.tables.specs.declared.ByteForm.{ByteForm}
-use Rattle.tables.specs.declared.ByteForm.the-variants.{FssUtf, UtfEbcdic}
 use Rattle.tables.proofs.ByteLayouts.{passes, radix-positive, trailing-end, row-bytes, encode-spelled}
 use Rattle.laws.proofs.AscendingRows.{row-of}
-use Rattle.laws.proofs.Digits.{spelledFrom, length-spelled-from, spelled-last}
+use Rattle.laws.proofs.Digits.{spelledFrom, spelled-last}
 
 overwrite : (d t : List ℕ) (i a : ℕ) → i < length d → set (take (i + 1) d ++ t) i a ≡ take i d ++ a ∷ t
 overwrite d t i a h =

@@ -3,13 +3,12 @@
 use Prim.Native.Nat.{ℕ}
 use mathlib.Core.Path.{_≡_, refl}
 use mathlib.Core.List.{List, [], _∷_, map}
-use lib.ListN.{length}
 use Rattle.types.specs.declared.Fault.the-variants.{MissingTrailing, StrayTrailing, InvalidUnit, Overlong, Surrogate}
 use Rattle.types.specs.declared.Item.{Item}
 use Rattle.types.specs.declared.Item.the-variants.{Character, Mark}
 use Rattle.forms.specs.Fault.{refusal}
 use Rattle.forms.specs.Form.{Form, span, items}
-use Rattle.forms.specs.Forms.{fssUtf, utfEbcdic, utf16, ucs4}
+use Rattle.forms.specs.Forms.{fssUtf, utfEbcdic, utf16}
 use Rattle.forms.specs.Conversion.{Outcome, refused, strict}
 
 -- a text and what is due: its items, or what comes of converting it into a buffer of so many cells

@@ -1,15 +1,15 @@
 -- The item of a byte form at an offset, by the role of its first byte and the trailing bytes behind it.
-use Prim.Native.Nat.{ℕ, zero, suc, _+_, _*_, _-_, _^_, _≤_, _<_}
-use mathlib.Core.Path.{_≡_, refl, sym, ap, _∙_, subst}
+use Prim.Native.Nat.{ℕ, _+_, _*_, _-_, _^_, _≤_, _<_}
+use mathlib.Core.Path.{_≡_, sym, ap, _∙_}
 use mathlib.Core.Bool.{true, false}
-use mathlib.Core.List.{List, [], _∷_}
+use mathlib.Core.List.{List}
 use native.Mathlib.Omega.{arith}
 use native.Mathlib.Nat.{mul-le-mul-right, le-trans}
 use lib.ListN.{length, getD, drop}
 use Rattle.types.specs.declared.Fault.the-variants.{MissingTrailing, StrayTrailing, InvalidUnit, Overlong, Surrogate}
 use Rattle.types.specs.declared.Item.{Item}
 use Rattle.types.specs.declared.Item.the-variants.{Character, Mark}
-use Rattle.forms.specs.Form.{Role, lead, Sequence, sequence, Form, taken, firstOf, span, itemOf}
+use Rattle.forms.specs.Form.{lead, Sequence, sequence, taken, span}
 use Rattle.forms.specs.Layout.{Layout, roleOf, rowAt, number, valueOf, lowestOf, formOf}
 use Rattle.forms.specs.Forms.{isSurrogate}
 use Rattle.laws.proofs.Sequences.{taken-most}

@@ -1,17 +1,16 @@
 -- The items of UTF-16 and UCS-4, by the unit at an offset and the one behind it.
-use Prim.Native.Nat.{ℕ, zero, suc, _+_, _*_, _-_, _≤_, _<_}
+use Prim.Native.Nat.{ℕ, suc, _+_, _*_, _-_, _≤_, _<_}
 use mathlib.Core.Path.{_≡_, refl, sym, ap, _∙_}
 use mathlib.Core.List.{List, [], _∷_}
 use mathlib.Core.Option.{none, some}
 use native.Mathlib.Omega.{arith}
-use native.Mathlib.Numerals.{add-one}
 use lib.ListN.{length, getD, drop, drop-of-length-le}
 use lib.Seq.{drop-cons}
 use borrow.Author.Tests.{le-ltb}
 use Rattle.types.specs.declared.Fault.the-variants.{MissingTrailing, StrayTrailing, InvalidUnit, Surrogate}
 use Rattle.types.specs.declared.Item.the-variants.{Character, Mark}
-use Rattle.forms.specs.Form.{Role, lead, trailing, invalid, sequence, Form, isTrailing, taken, firstOf, span, itemOf}
-use Rattle.forms.specs.Layout.{Layout, roleOf, valueOf, rowLimit, formOf}
+use Rattle.forms.specs.Form.{lead, sequence, taken, span}
+use Rattle.forms.specs.Layout.{roleOf, valueOf}
 use Rattle.forms.specs.Forms.{noCharacter, utf16Layout, ucs4Layout, utf16, ucs4}
 use Rattle.laws.proofs.Digits.{IsDigit}
 use Rattle.laws.proofs.Rows.{within-below, within-above}

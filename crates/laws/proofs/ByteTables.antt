@@ -2,12 +2,11 @@
 -- sequence there is as short as the shortest of its value but this one.
 use Prim.Native.Nat.{ℕ, suc, _+_, _≤_, _<_}
 use mathlib.Core.Path.{_≡_, refl, ap, _∙_}
-use mathlib.Core.Logic.{_↔_}
 use mathlib.Core.Bool.{true}
 use mathlib.Core.List.{List, [], _∷_, map}
 use native.Mathlib.Omega.{arith}
 use lib.ListN.{length, length-map}
-use Rattle.forms.specs.Form.{lead, Sequence, units, size, Form}
+use Rattle.forms.specs.Form.{Sequence, units, size}
 use Rattle.forms.specs.Layout.{Row, Layout, formOf}
 use Rattle.forms.specs.LayoutTable.{TableRow, fssUtfTable, i8Table, tableRowsOf, tableOf}
 use Rattle.forms.specs.Exchange.{i8Of, ebcdicOf}

@@ -1,16 +1,14 @@
 -- A form whose code units are exchanged one for one: it reads as the other form reads the exchanged text, and keeps the laws.
-use Prim.Native.Nat.{ℕ, zero, suc, _+_}
+use Prim.Native.Nat.{ℕ, zero, suc}
 use mathlib.Core.Path.{_≡_, refl, sym, ap, _∙_, subst}
 use mathlib.Core.Logic.{_≢_}
 use mathlib.Core.Bool.{Bool, true, false, cond}
 use mathlib.Core.List.{List, [], _∷_, map}
 use mathlib.Core.Option.{Option, none, some}
 use native.Mathlib.Omega.{arith}
-use lib.Dec.{ltb, eqb}
 use lib.ListN.{length, length-map}
 use Rattle.types.specs.declared.Fault.{Fault}
-use Rattle.types.specs.declared.Item.{Item}
-use Rattle.forms.specs.Form.{Role, lead, trailing, invalid, Sequence, sequence, units, size, Form, asked, isTrailing, taken, firstOf, sequencesAfter, sequences, Content, character, mark, isShorter, overlong, carried, fullContent, contentAs, content, withSpan, span, itemOf, itemsFrom, items, unless, encode}
+use Rattle.forms.specs.Form.{Role, lead, trailing, invalid, Sequence, sequence, units, Form, asked, isTrailing, taken, firstOf, isShorter, fullContent, contentAs, content, itemOf, unless, encode}
 use Rattle.forms.specs.Layout.{exchanged}
 use Rattle.laws.specs.LayoutTable.{Full, AllTrailing}
 use Rattle.laws.proofs.Sequences.{same-units}

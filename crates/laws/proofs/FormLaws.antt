@@ -4,9 +4,8 @@ use mathlib.Core.Path.{_≡_}
 use mathlib.Core.Logic.{_≢_}
 use mathlib.Core.List.{[]}
 use mathlib.Core.Option.{none, some}
-use lib.ListN.{length}
 use Rattle.types.specs.declared.Fault.{Fault}
-use Rattle.forms.specs.Form.{Role, lead, Sequence, units, Form, Content, character, fullContent, encode}
+use Rattle.forms.specs.Form.{lead, Sequence, units, Form, character, fullContent, encode}
 use Rattle.forms.specs.Forms.{noCharacter}
 use Rattle.laws.specs.LayoutTable.{Full}
 

@@ -1,19 +1,18 @@
 -- The four forms keep the laws.
-use Prim.Native.Nat.{ℕ, zero, suc, _+_, _-_, _*_, _/_, _^_, _≤_, _<_}
-use mathlib.Core.Path.{_≡_, refl, sym, ap, _∙_, subst}
+use Prim.Native.Nat.{ℕ, zero, suc, _+_, _-_, _/_, _^_, _≤_, _<_}
+use mathlib.Core.Path.{_≡_, refl, sym, _∙_, subst}
 use mathlib.Core.Logic.{_⊎_, inl, inr}
 use mathlib.Core.Bool.{Bool, true, false, cond}
 use mathlib.Core.List.{List, []}
 use mathlib.Core.Option.{Option, none, some}
 use native.Mathlib.Omega.{arith}
-use native.Mathlib.Nat.{div-one}
 use native.Mathlib.Decide.{decLt}
 use lib.Dec.{ltb}
 use borrow.Author.Tests.{ltb-false}
 use Rattle.types.specs.declared.Fault.{Fault}
 use Rattle.types.specs.declared.Fault.the-variants.{Unrepresentable, Surrogate}
 use Rattle.forms.specs.Form.{Role, lead, trailing, invalid, sequence, firstOf}
-use Rattle.forms.specs.Layout.{Layout, roleOf, rowAt, rowLimit}
+use Rattle.forms.specs.Layout.{roleOf, rowAt, rowLimit}
 use Rattle.forms.specs.Exchange.{i8Of, ebcdicOf}
 use Rattle.forms.specs.Forms.{byteLayout, isSurrogate, noCharacter, orElse, utf16Layout, ucs4Layout, fssUtf, i8, utfEbcdic, utf16, ucs4}
 use Rattle.laws.proofs.FormLaws.{Laws}

@@ -1,19 +1,19 @@
 -- The form of a layout keeps the laws: one proof over the rows and the radix.
 use Prim.Native.Nat.{ℕ, zero, suc, _+_, _-_, _*_, _/_, _%_, _^_, _≤_, _<_}
 use mathlib.Core.Path.{_≡_, refl, sym, ap, _∙_, subst}
-use mathlib.Core.Logic.{_≢_, _⊎_, inl, inr}
-use mathlib.Core.Bool.{Bool, true, false, cond, _&&_}
+use mathlib.Core.Logic.{_⊎_, inl, inr}
+use mathlib.Core.Bool.{Bool, true, false, cond}
 use mathlib.Core.List.{List, [], _∷_}
 use mathlib.Core.Option.{Option, none, some}
 use native.Mathlib.Omega.{arith}
 use native.Mathlib.Nat.{add-zero, zero-add, add-suc, mod-lt, div-add-mod', div-lt-iff-lt-mul, add-sub-cancel-left}
 use native.Mathlib.Decide.{decLt, decLe}
-use lib.Dec.{leb, ltb}
-use borrow.Author.Tests.{ltb-true, ltb-false, lt-ltb, le-ltb, le-leb, lt-leb}
-use lib.ListN.{length, getD}
+use lib.Dec.{ltb}
+use borrow.Author.Tests.{ltb-false, lt-ltb, le-ltb}
+use lib.ListN.{length}
 use Rattle.types.specs.declared.Fault.{Fault}
-use Rattle.forms.specs.Form.{Role, lead, trailing, invalid, Sequence, sequence, units, Form, isTrailing, Content, character, mark, isShorter, overlong, carried, fullContent, unless, encode}
-use Rattle.forms.specs.Layout.{Row, row, Layout, leadIn, roleOf, rowAt, number, valueOf, limitOf, rowLimit, lowestOf, digits, spelled, shortestIn, formOf}
+use Rattle.forms.specs.Form.{Role, lead, trailing, invalid, Sequence, sequence, units, Form, isTrailing, character, mark, isShorter, overlong, carried, fullContent, unless, encode}
+use Rattle.forms.specs.Layout.{Row, Layout, leadIn, roleOf, rowAt, number, valueOf, rowLimit, lowestOf, digits, spelled, shortestIn, formOf}
 use Rattle.forms.specs.Forms.{noCharacter}
 use Rattle.laws.specs.LayoutTable.{Full, AllTrailing}
 use Rattle.laws.proofs.Sequences.{same-units}

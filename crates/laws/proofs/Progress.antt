@@ -1,12 +1,12 @@
 -- Strict conversion item by item: what a loop over the text keeps, how an item carries it on, and what it comes to.
-use Prim.Native.Nat.{ℕ, zero, suc, _+_, _*_, _-_, _≤_, _<_}
-use mathlib.Core.Path.{_≡_, refl, sym, ap, _∙_, subst}
+use Prim.Native.Nat.{ℕ, _+_, _-_, _≤_, _<_}
+use mathlib.Core.Path.{_≡_, refl, sym, ap, _∙_}
 use mathlib.Core.Logic.{_≢_}
 use mathlib.Core.List.{List, [], _∷_, _++_, append-assoc, append-nil}
 use native.Mathlib.Omega.{arith}
 use native.Mathlib.Decide.{decLt}
 use borrow.Author.Tests.{le-ltb, lt-ltb}
-use lib.ListN.{length, getD, drop, length-append}
+use lib.ListN.{length, drop, length-append}
 use Rattle.types.specs.declared.Fault.{Fault}
 use Rattle.types.specs.declared.Fault.the-variants.{SourceTooLong}
 use Rattle.types.specs.declared.Span.{Span}
@@ -14,11 +14,11 @@ use Rattle.types.specs.declared.Item.{Item}
 use Rattle.types.specs.declared.Item.the-variants.{Character, Mark}
 use Rattle.types.specs.declared.Refusal.{Refusal}
 use Rattle.forms.specs.Fault.{limit, refusal}
-use Rattle.forms.specs.Form.{Form, Content, character, mark, size, content, span, spanOf, withSpan, firstOf, itemOf, items, encode, asked}
+use Rattle.forms.specs.Form.{Form, Content, character, mark, size, content, span, spanOf, withSpan, itemOf, items, encode, asked}
 use Rattle.forms.specs.Forms.{ucs4}
 use Rattle.forms.specs.Conversion.{Outcome, converted, refused, encoding, refusalAt, prepend, put, convertItems, outcome}
 use Rattle.laws.proofs.Sequences.{taken-trailing}
-use Rattle.laws.proofs.FormLaws.{Reads, Laws}
+use Rattle.laws.proofs.FormLaws.{Laws}
 use Rattle.laws.proofs.Items.{itemsOnward, sequenceAt, items-end, items-step, length-at, within-at}
 use Rattle.laws.proofs.Carried.{is-character}
 use Rattle.laws.proofs.Characters.{content-reads, reads-encodable, put-some}

@@ -1,21 +1,18 @@
 -- The character at an offset, by its units: a lead of a row, and the digits behind it. Read with its faults, or known to be a character.
-use Prim.Native.Nat.{ℕ, zero, suc, _+_, _*_, _-_, _^_, _≤_, _<_}
+use Prim.Native.Nat.{ℕ, suc, _+_, _*_, _-_, _^_, _≤_, _<_}
 use mathlib.Core.Path.{_≡_, refl, sym, ap, _∙_, subst}
 use mathlib.Core.Bool.{true}
-use mathlib.Core.List.{List, [], _∷_, _++_}
+use mathlib.Core.List.{List, _∷_, _++_}
 use mathlib.Core.Option.{none}
 use native.Mathlib.Omega.{arith}
-use native.Mathlib.Numerals.{add-one}
 use lib.ListN.{length, getD, take, drop, length-drop, length-take}
 use lib.Seq.{drop-cons}
-use Rattle.types.specs.declared.Fault.{Fault}
 use Rattle.types.specs.declared.Span.{Span}
-use Rattle.types.specs.declared.Item.{Item}
 use Rattle.types.specs.declared.Item.the-variants.{Character, Mark}
-use Rattle.forms.specs.Form.{Role, lead, Sequence, sequence, size, Form, asked, taken, firstOf, Content, character, mark, content, span, withSpan, itemOf}
+use Rattle.forms.specs.Form.{Role, lead, sequence, size, Form, asked, taken, Content, character, mark, content, span, withSpan}
 use Rattle.forms.specs.Layout.{Layout, roleOf, rowAt, number, valueOf, lowestOf, formOf}
 use Rattle.laws.proofs.Sequences.{taken-all, taken-trailing, taken-full}
-use Rattle.laws.proofs.Digits.{IsDigit, AllDigits}
+use Rattle.laws.proofs.Digits.{AllDigits}
 use Rattle.laws.proofs.Rows.{lead-injective}
 use Rattle.laws.proofs.LayoutLaws.{Fit, fine, all-trailing, all-digits}
 use Rattle.laws.proofs.AscendingRows.{ascending, ascending-fits, limits-rise, leads-of-row, row-of}

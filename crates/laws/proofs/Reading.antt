@@ -1,19 +1,17 @@
 -- The first item of a text, by the role of its first unit and the units that it takes.
-use Prim.Native.Nat.{ℕ, zero, suc, _+_, _≤_, _<_}
-use mathlib.Core.Path.{_≡_, refl, sym, ap, _∙_}
-use mathlib.Core.Bool.{true, false, cond}
-use mathlib.Core.List.{List, [], _∷_}
-use mathlib.Core.Option.{Option, none, some}
+use Prim.Native.Nat.{ℕ, suc, _+_, _≤_, _<_}
+use mathlib.Core.Path.{_≡_, sym, ap, _∙_}
+use mathlib.Core.List.{List}
+use mathlib.Core.Option.{none, some}
 use native.Mathlib.Omega.{arith}
 use native.Mathlib.Numerals.{add-one}
-use lib.Dec.{ltb, eqb}
+use lib.Dec.{ltb}
 use borrow.Author.Tests.{eq-eqb, ne-eqb, lt-ltb, le-ltb}
 use lib.ListN.{length}
 use Rattle.types.specs.declared.Fault.{Fault}
 use Rattle.types.specs.declared.Fault.the-variants.{MissingTrailing, StrayTrailing, InvalidUnit, Overlong}
-use Rattle.types.specs.declared.Item.{Item}
 use Rattle.types.specs.declared.Item.the-variants.{Character, Mark}
-use Rattle.forms.specs.Form.{Role, lead, trailing, invalid, Sequence, sequence, Form, taken, firstOf, overlong, fullContent, span, withSpan, itemOf}
+use Rattle.forms.specs.Form.{lead, trailing, invalid, Sequence, sequence, Form, taken, firstOf, overlong, fullContent, span, withSpan, itemOf}
 use Rattle.forms.specs.Layout.{Layout, valueOf, rowLimit, lowestOf, formOf}
 use Rattle.laws.specs.LayoutTable.{Full}
 use Rattle.laws.proofs.Sequences.{taken-trailing}

@@ -1,7 +1,7 @@
 -- Bytes at which nothing is wrong, between two leads, are whole characters.
 use Prim.Native.Nat.{ℕ, _+_, _-_, _≤_, _<_}
 use mathlib.Core.Path.{_≡_, refl, sym, ap, _∙_}
-use mathlib.Core.Logic.{_≢_, _⊎_, inl, inr, ⊎-elim}
+use mathlib.Core.Logic.{_⊎_, inl, inr, ⊎-elim}
 use mathlib.Core.Bool.{Bool, true, false, not, _&&_, _||_, Bool·beq}
 use mathlib.Core.List.{List, [], _∷_}
 use native.Mathlib.Omega.{arith}
@@ -10,7 +10,7 @@ use native.Mathlib.Nat.{add-zero}
 use lib.Dec.{leb, ltb, eqb}
 use borrow.Author.Tests.{lt-ltb, le-leb, lt-leb, eq-eqb, ltb-true, ltb-false, leb-true, leb-false, eqb-false}
 use lib.ListN.{length, getD, drop}
-use Rattle.forms.specs.Form.{Form, encode}
+use Rattle.forms.specs.Form.{Form}
 use Rattle.forms.specs.Forms.{byteLayout, fssUtf}
 use Rattle.laws.proofs.Carried.{free-below, free-above}
 use Rattle.laws.proofs.ReadUnits.{read-units, behind-one, behind-two, behind-three}

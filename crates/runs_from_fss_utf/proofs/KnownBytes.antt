@@ -16,7 +16,6 @@ use Rattle.laws.proofs.Reading.{reads-trailing, reads-invalid}
 use Rattle.laws.proofs.Progress.{CharacterAt}
 use Rattle.laws.proofs.ReadUnits.{Known, known, behind-one, behind-two, behind-three}
 use Rattle.laws.proofs.Runs.{Stands}
-use Rattle.tables.specs.declared.ByteForm.the-variants.{FssUtf}
 
 -- a character of so many bytes, of this value, and its last byte inside
 pub record Bytes (s : List ℕ) (p k v : ℕ) : Type 0 where

@@ -1,12 +1,10 @@
 -- Blocks without surrogates: each unit is a character by itself, and its value.
 use Prim.Native.Nat.{ℕ, _+_, _-_, _≤_, _<_}
 use mathlib.Core.Path.{_≡_, sym, ap, _∙_}
-use mathlib.Core.Bool.{false}
 use mathlib.Core.List.{List, [], _∷_}
 use native.Mathlib.Omega.{arith}
 use lib.ListN.{length, getD, drop, length-append}
 use lib.Seq.{take-at, getD-take, getD-drop}
-use borrow.Author.Tests.{lt-leb}
 use Rattle.forms.specs.Form.{Form, encode, encodeAll, span}
 use Rattle.forms.specs.Forms.{utf16, fssUtf, ucs4}
 use Rattle.forms.specs.Buffer.{withUnits}

@@ -1,17 +1,16 @@
 -- The bytes of a character that is known to stand at an offset: their I8 bytes, and that they are there.
-use Prim.Native.Nat.{ℕ, zero, suc, _+_, _*_, _-_, _%_, _^_, _≤_, _<_}
-use mathlib.Core.Path.{_≡_, refl, sym, ap, _∙_}
-use mathlib.Core.List.{List, [], _∷_, map}
+use Prim.Native.Nat.{ℕ, _+_, _*_, _-_, _%_, _≤_, _<_}
+use mathlib.Core.Path.{_≡_, sym, ap, _∙_}
+use mathlib.Core.List.{List, [], _∷_}
 use native.Mathlib.Omega.{arith}
 use native.Mathlib.Decide.{decLt}
-use lib.ListN.{length, getD, take, drop, length-map}
+use lib.ListN.{length, getD, take, drop}
 use Rattle.types.specs.declared.Fault.the-variants.{StrayTrailing}
 use Rattle.types.specs.declared.Item.the-variants.{Character, Mark}
 use Rattle.forms.specs.Form.{span}
-use Rattle.forms.specs.Layout.{rowAt, number}
+use Rattle.forms.specs.Layout.{rowAt}
 use Rattle.forms.specs.Exchange.{i8Of}
 use Rattle.forms.specs.Forms.{byteLayout, utfEbcdic}
-use Rattle.laws.proofs.Digits.{AllDigits}
 use Rattle.laws.proofs.LayoutLaws.{digit-trailing}
 use Rattle.laws.proofs.Reading.{reads-trailing}
 use Rattle.laws.proofs.Progress.{CharacterAt}
@@ -20,7 +19,6 @@ use Rattle.laws.proofs.Runs.{Stands}
 use Rattle.tables.specs.declared.ByteForm.the-variants.{UtfEbcdic}
 use Rattle.tables.proofs.ByteLayouts.{passes, fits}
 use Rattle.items.proofs.Plain.{plainText, plain-length, plain-at}
-use Rattle.characters.specs.Short.{ShortAt}
 use Rattle.characters.proofs.ByteCharacters.{to-plain, from-plain}
 
 -- a character of so many bytes, of this value, and its last byte inside

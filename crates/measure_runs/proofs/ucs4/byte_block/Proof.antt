@@ -1,6 +1,5 @@
 use native.Mathlib.Omega.{arith}
 use mathlib.Core.Path.{refl}
-use denote.Ref.{now}
 use Rattle.measure_runs.proofs.Ucs4Counting.{rows, bytes-one, bytes-few, bytes-all}
 use borrow.Author.Needs.{needs}
 use Rattle.measure_runs.proofs.ucs4.byte_block.Statement.{statement}

@@ -1,7 +1,6 @@
-use Prim.Native.Nat.{ℕ, _+_, _-_, _≤_}
+use Prim.Native.Nat.{_-_, _≤_}
 use mathlib.Core.Path.{_≡_, refl, sym}
 use native.Mathlib.Omega.{arith}
-use lib.ListN.{getD}
 use denote.Ref.{now}
 use Rattle.laws.proofs.Runs.{sum as total, sum-zero, sum-more, sum-most}
 use Rattle.measure_runs.specs.Ucs4Bounds.{unitsAt}

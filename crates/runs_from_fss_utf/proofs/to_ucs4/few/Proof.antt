@@ -8,7 +8,6 @@ use Rattle.laws.proofs.Progress.{CharacterAt, character-onward}
 use Rattle.laws.proofs.Runs.{Stands, WritingRun, writing-run-begin, writing-run-stands, writing-run-held, writing-run-unit, writing-run-more}
 use Rattle.laws.proofs.UnitEncodings.{ucs4-encoding, ucs4-below}
 use Rattle.runs_from_fss_utf.proofs.KnownBytes.{Bytes, begins, bytes-one, bytes-two, bytes-three, inside-two, inside-three}
-use Rattle.laws.proofs.FourForms.{fssUtf-laws}
 use borrow.Author.Needs.{needs}
 use native.Mathlib.Omega.{arith}
 use Rattle.runs_from_fss_utf.proofs.to_ucs4.few.Statement.{statement}

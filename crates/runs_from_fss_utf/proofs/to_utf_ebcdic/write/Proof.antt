@@ -4,7 +4,6 @@ use denote.Ref.{now}
 use Rattle.forms.specs.Form.{span}
 use Rattle.forms.specs.Forms.{fssUtf, utfEbcdic}
 use Rattle.laws.proofs.Progress.{CharacterAt, character-onward}
-use Rattle.laws.proofs.FourForms.{fssUtf-laws}
 use Rattle.laws.proofs.Runs.{WritingRun, writing-run-begin, writing-run-stands, writing-run-held, writing-run-more}
 use Rattle.measure_runs.proofs.FssUtfAsciiCounting.{ascii-at}
 use borrow.Author.Needs.{needs}

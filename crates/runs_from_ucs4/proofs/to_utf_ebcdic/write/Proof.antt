@@ -4,7 +4,6 @@ use denote.Ref.{now}
 use Rattle.forms.specs.Form.{span}
 use Rattle.forms.specs.Forms.{utfEbcdic, ucs4}
 use Rattle.laws.proofs.Progress.{CharacterAt, character-onward}
-use Rattle.laws.proofs.FourForms.{ucs4-laws}
 use Rattle.laws.proofs.Runs.{WritingRun, writing-run-begin, writing-run-stands, writing-run-held, writing-run-more}
 use Rattle.runs_from_ucs4.proofs.Units.{unit-stands}
 use borrow.Author.Needs.{needs}

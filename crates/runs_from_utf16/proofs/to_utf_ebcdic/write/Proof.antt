@@ -4,7 +4,6 @@ use denote.Ref.{now}
 use Rattle.forms.specs.Form.{span}
 use Rattle.forms.specs.Forms.{utf16, utfEbcdic}
 use Rattle.laws.proofs.Progress.{CharacterAt, character-onward}
-use Rattle.laws.proofs.FourForms.{utf16-laws}
 use Rattle.laws.proofs.Runs.{WritingRun, writing-run-begin, writing-run-held, writing-run-more}
 use borrow.Author.Needs.{needs}
 use native.Mathlib.Omega.{arith}

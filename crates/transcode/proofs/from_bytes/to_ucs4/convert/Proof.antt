@@ -6,7 +6,6 @@ use lib.ListN.{length}
 use denote.Ref.{now}
 use Rattle.forms.specs.Forms.{ucs4}
 use Rattle.tables.specs.ByteForms.{byteForm}
-use Rattle.tables.proofs.ByteLayouts.{byte-laws}
 use Rattle.forms.specs.Conversion.{Measures}
 use Rattle.laws.proofs.Buffers.{front-within}
 use Rattle.laws.proofs.Progress.{CharacterAt, character-at, mark-at, character-onward}
