@@ -598,12 +598,13 @@ fn faults_have_their_numbers_and_words() {
         (6, Fault::Unrepresentable),
         (7, Fault::BufferTooShort),
         (9, Fault::OffsetOutOfRange),
+        (10, Fault::Surrogate),
     ] {
         assert_eq!(fault.number(), number);
         assert_eq!(Fault::from_number(number), Some(fault));
         assert!(HEADER.contains(&format!(": return \"{fault}\";")));
     }
-    for number in [0, 8, 10, u32::MAX] {
+    for number in [0, 8, 11, u32::MAX] {
         assert_eq!(Fault::from_number(number), None);
     }
 
