@@ -28,7 +28,7 @@ pub record Pair (F G : Form) (most : ℕ → ℕ) : Type 0 where
   pub characters : (s d : List ℕ) (n : ℕ) (o : List ℕ) → Converts F G s d (Units n) o → Accepted F G s (take n o)
   -- and every text of values that both forms have encodings of is accepted
   pub accepts : (vs : List ℕ) → AllEncodable F vs → AllEncodable G vs → length (encodeAll F vs) ≤ limit → outcome F G (encodeAll F vs) ≡ converted (encodeAll G vs)
-  -- "fault 6 is left with values above 10FFFF" (request 104): a character that the target does not hold is one
+  -- "fault 6 is left with values above 10FFFF" (request 104): a character that the target does not hold lies there
   pub beyond : (v : ℕ) → encode F v ≢ [] → encode G v ≡ [] → 0x10FFFF < v
   -- an accepted text of n units has a result of at most so many
   pub room : Room F G most

@@ -1,6 +1,6 @@
 // The types that every call speaks in: faults, items, refusals and answers. The rules about them are the definitions of `forms`.
 
-// Document 01's faults, in the order of their numbers.
+// Document 01's faults and request 104's, in the order of their numbers.
 pub enum Fault {
     SourceTooLong,
     MissingTrailing,
