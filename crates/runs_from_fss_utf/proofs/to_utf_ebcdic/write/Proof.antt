@@ -56,7 +56,7 @@ add-write : tie.Need-add-write Inv-loop μ-loop
 add-write c = omega (arith, c .before .before .before .before .before .before .loop .inv .room, c .before .before .before .before .before .before .before .before .before .before .before .before .good)
 
 write-requires : tie.Need-write-requires Inv-loop μ-loop
-write-requires c κs = (c .before .before .before .before .before .before .before .inverse-table .ensures .1, writing-run-held (c .before .before .before .before .before .before .loop .inv) (alone (c .before)) .0, writing-run-held (c .before .before .before .before .before .before .loop .inv) (alone (c .before)) .1)
+write-requires c κs = let h = writing-run-held (c .before .before .before .before .before .before .loop .inv) (alone (c .before)) in (c .before .before .before .before .before .before .before .inverse-table .ensures .1, h .0, h .1)
 
 add-length : tie.Need-add-length Inv-loop μ-loop
 add-length c = omega (arith, character-onward (alone (c .before .before .before .before)) .1, c .before .before .before .before .before .before .before .before .before .before .before .before .before .before .before .good)
@@ -86,7 +86,7 @@ add-write-2 : tie.Need-add-write-2 Inv-loop μ-loop
 add-write-2 c = omega (arith, c .before .before .before .before .before .before .before .loop .inv .room, c .before .before .before .before .before .before .before .before .before .before .before .before .before .good)
 
 write-requires-2 : tie.Need-write-requires-2 Inv-loop μ-loop
-write-requires-2 c κs = (c .before .before .before .before .before .before .before .before .inverse-table .ensures .1, writing-run-held (c .before .before .before .before .before .before .before .loop .inv) (read (c .before .before)) .0, writing-run-held (c .before .before .before .before .before .before .before .loop .inv) (read (c .before .before)) .1)
+write-requires-2 c κs = let h = writing-run-held (c .before .before .before .before .before .before .before .loop .inv) (read (c .before .before)) in (c .before .before .before .before .before .before .before .before .inverse-table .ensures .1, h .0, h .1)
 
 add-length-2 : tie.Need-add-length-2 Inv-loop μ-loop
 add-length-2 c = omega (arith, character-onward (read (c .before .before .before .before .before)) .1, c .before .before .before .before .before .before .before .before .before .before .before .before .before .before .before .before .good)

@@ -55,7 +55,7 @@ add-write : tie.Need-add-write Inv-loop μ-loop
 add-write c = omega (arith, c .before .before .before .before .before .loop .inv .room, c .before .before .before .before .before .before .before .before .before .before .before .good)
 
 write-requires : tie.Need-write-requires Inv-loop μ-loop
-write-requires c κs = (c .before .before .before .before .before .before .inverse-table .ensures .1, writing-run-held (c .before .before .before .before .before .loop .inv) (read (c .before .before)) .0, writing-run-held (c .before .before .before .before .before .loop .inv) (read (c .before .before)) .1)
+write-requires c κs = let h = writing-run-held (c .before .before .before .before .before .loop .inv) (read (c .before .before)) in (c .before .before .before .before .before .before .inverse-table .ensures .1, h .0, h .1)
 
 add-length : tie.Need-add-length Inv-loop μ-loop
 add-length c = omega (arith, character-onward (read (c .before .before .before .before .before)) .1, c .before .before .before .before .before .before .before .before .before .before .before .before .before .before .good)
