@@ -6,8 +6,8 @@ use mathlib.Core.Bool.{Bool, true, false, cond}
 use mathlib.Core.List.{List, [], _∷_}
 use mathlib.Core.Option.{none, some}
 use native.Mathlib.Omega.{arith}
-use lib.Dec.{leb, eqb}
-use borrow.Author.Tests.{eq-eqb, eqb-true, eqb-false, ne-eqb, le-ltb, lt-ltb, ltb-true, ltb-false, leb-true}
+use lib.Dec.{eqb}
+use borrow.Author.Tests.{eq-eqb, eqb-true, eqb-false, ne-eqb, le-ltb, lt-ltb, ltb-true, ltb-false}
 use lib.ListN.{length}
 use Rattle.types.specs.declared.Fault.{Fault}
 use Rattle.types.specs.declared.Fault.the-variants.{MissingTrailing, StrayTrailing, InvalidUnit, Overlong, Surrogate}
@@ -16,7 +16,7 @@ use Rattle.forms.specs.Form.{Role, lead, trailing, invalid, Sequence, Form, ask
 use Rattle.forms.specs.Forms.{isSurrogate, noCharacter}
 use Rattle.laws.specs.LayoutTable.{Full}
 use Rattle.laws.proofs.FormLaws.{Laws}
-use Rattle.laws.proofs.Table.{and-left, and-right}
+use Rattle.laws.proofs.Rows.{within-true}
 use Rattle.laws.proofs.Carried.{surrogate}
 use Rattle.laws.proofs.Sequences.{taken-most, taken-trailing}
 use Rattle.acceptance.specs.FaultNumbers.{Among, markFaults, Marks, too-few, stray, no-role, too-long, no-character}
@@ -52,9 +52,6 @@ is-not-shorter : (e t : List ℕ) → suc (length t) ≤ length e → isShorter 
 is-not-shorter [] t h = absurd (omega arith)
 is-not-shorter (u ∷ e) t h = le-ltb (length e) (length t) (omega arith)
 
-bounds : (v : ℕ) → isSurrogate v ≡ true → (0xD800 ≤ v) × (v ≤ 0xDFFF)
-bounds v e = (leb-true 0xD800 v (and-left (leb 0xD800 v) (leb v 0xDFFF) e), leb-true v 0xDFFF (and-right (leb 0xD800 v) (leb v 0xDFFF) e))
-
 module _ (F : Form) (u : ℕ) (us : List ℕ) where
   abbrev c : Sequence
   c = firstOf F u us
@@ -68,7 +65,7 @@ module _ (F : Form) (u : ℕ) (us : List ℕ) where
       by-surrogate : (n : ℕ) → F .role u ≡ lead n → length (c .rest) ≡ n → overlong F c ≡ false → Full F c → (b : Bool) → isSurrogate (F .value c) ≡ b
           → carried (F .value c) (cond b (some Surrogate) none) ≡ mark f → Marks F u us (numberOf f)
       by-surrogate n e l o full true i h =
-          let w = bounds (F .value c) i in
+          let w = within-true 0xD800 0xDFFF (F .value c) i in
           no-character (sym (ap numberOf (same-mark h))) n e (sym (rest-is n e) ∙ l)
           (omega (arith, not-shorter (F .shortest (F .value c)) (c .rest) (own .spells c full) o)) (w .0) (w .1)
       by-surrogate n e l o full false i h = no-mark h

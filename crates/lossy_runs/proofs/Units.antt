@@ -1,7 +1,7 @@
 -- Characters of one code unit of UTF-16 and UCS-4, by the tests that the blocks of a lossy decoding make.
 use Prim.Native.Nat.{ℕ, _+_, _<_}
 use mathlib.Core.Path.{_≡_, refl, sym, _∙_}
-use mathlib.Core.Bool.{Bool, true, false, _&&_, _||_}
+use mathlib.Core.Bool.{Bool, true, false, _&&_}
 use mathlib.Core.List.{List}
 use native.Mathlib.Omega.{arith}
 use borrow.Author.Count.{below-more}
@@ -16,14 +16,6 @@ use Rattle.laws.proofs.Progress.{CharacterAt}
 use Rattle.items.proofs.WholeUnits.{ucs4-character}
 use Rattle.characters.proofs.Shorts.{unit-below, unit-above}
 use Rattle.lossy_runs.specs.Ucs4Units.{Carried, AllCarried}
-
-pub or-false-left : (a b : Bool) → (a || b) ≡ false → a ≡ false
-or-false-left false b e = refl
-or-false-left true b e = e
-
-pub or-false-right : (a b : Bool) → (a || b) ≡ false → b ≡ false
-or-false-right false b e = e
-or-false-right true b e = absurd (let z : _≡_ {A = ℕ} 0 1 = cc in omega arith)
 
 -- what the tests of a UCS-4 unit say
 pub below-carried : {u : ℕ} → u < 0xD800 → Carried u

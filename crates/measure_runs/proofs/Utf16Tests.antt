@@ -41,11 +41,6 @@ low-false u e h = ltb-false u 0xE000 (and-false (leb 0xDC00 u) (ltb u 0xE000) e 
 pub surrogate-false : (u : ℕ) → isSurrogate u ≡ false → 0xD800 ≤ u → 0xE000 ≤ u
 surrogate-false u e h = outside u (rw e) h
 
-pub surrogate-bounds : (u : ℕ) → isSurrogate u ≡ true → (0xD800 ≤ u) × (u < 0xE000)
-surrogate-bounds u e =
-    let m = leb-true u 0xDFFF (and-right (leb 0xD800 u) (leb u 0xDFFF) e) in
-    (leb-true 0xD800 u (and-left (leb 0xD800 u) (leb u 0xDFFF) e), omega arith)
-
 -- a low unit is no high one
 pub low-not-high : (u : ℕ) → isLow u ≡ true → isHigh u ≡ false
 low-not-high u e = let b = low-bounds u e in rw (le-leb 0xD800 u (omega (arith, b)), le-ltb u 0xDC00 (b .0))

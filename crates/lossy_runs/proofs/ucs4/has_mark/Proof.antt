@@ -5,7 +5,8 @@ use native.Mathlib.Omega.{arith}
 use lib.Dec.{leb}
 use lib.ListN.{getD}
 use denote.Ref.{now}
-use Rattle.lossy_runs.proofs.Units.{or-false-left, or-false-right, tested-carried, CarriedIf, carried-none, carried-more}
+use Rattle.laws.proofs.Values.{neither-left, neither-right}
+use Rattle.lossy_runs.proofs.Units.{tested-carried, CarriedIf, carried-none, carried-more}
 use borrow.Author.Needs.{needs}
 use Rattle.lossy_runs.proofs.ucs4.has_mark.Statement.{statement}
 use Rattle.lossy_runs.proofs.ucs4.has_mark.Tie as tie
@@ -43,8 +44,8 @@ loop-again c =
     let gap = c .is-surrogate .result in
     let high = leb 0x80000000 (getD (now (c .before .before .before .before .before .args .block)) (l .k) 0) in (
       omega (arith, c .before .before .loop-test .taken),
-      carried-more (l .inv .1) (λ e. or-false-left (l .bad) gap (or-false-left (l .bad || gap) high e))
-          (λ e. tested-carried (c .is-surrogate .ensures) (or-false-right (l .bad) gap (or-false-left (l .bad || gap) high e)) (or-false-right (l .bad || gap) high e)),
+      carried-more (l .inv .1) (λ e. neither-left (l .bad) gap (neither-left (l .bad || gap) high e))
+          (λ e. tested-carried (c .is-surrogate .ensures) (neither-right (l .bad) gap (neither-left (l .bad || gap) high e)) (neither-right (l .bad || gap) high e)),
     )
 
 returns-2 : tie.Need-returns-2 Inv-loop μ-loop

@@ -6,7 +6,8 @@ use borrow.Author.Needs.{needs}
 use lib.Dec.{leb, ltb}
 use denote.Ref.{now}
 use Rattle.forms.specs.Forms.{utf16}
-use Rattle.lossy_runs.proofs.Units.{or-false-left, or-false-right, lone-unit}
+use Rattle.laws.proofs.Values.{neither-left, neither-right}
+use Rattle.lossy_runs.proofs.Units.{lone-unit}
 use Rattle.lossy_runs.proofs.ReadingOn.{Copied, copied-none, copied-more, copied-all, read-none, read-block, block-room, Singles, Loading, loading-none, loading-more, loading-all}
 use Rattle.lossy_runs.proofs.utf16.block_at.Statement.{statement}
 use Rattle.lossy_runs.proofs.utf16.block_at.Tie as tie
@@ -71,8 +72,8 @@ loop-again c =
     let l = c .before .before .before .loop in
     let x = c .wide .result in
     let t = leb 0xD800 x && ltb x 0xE000 in
-    loading-more (l .inv) (c .before .before .loop-test .taken) (or-false-left (l .found) t)
-    (λ q. lone-unit (omega arith) (c .wide .ensures) (omega (arith, c .wide .ensures, c .before .shared-slice-known2 .given (c .before .before .before .before .before .before .before .before .args .at + l .j))) (or-false-right (l .found) t q))
+    loading-more (l .inv) (c .before .before .loop-test .taken) (neither-left (l .found) t)
+    (λ q. lone-unit (omega arith) (c .wide .ensures) (omega (arith, c .wide .ensures, c .before .shared-slice-known2 .given (c .before .before .before .before .before .before .before .before .args .at + l .j))) (neither-right (l .found) t q))
 
 returns-2 : tie.Need-returns-2 Inv-loop μ-loop Inv-loop2 μ-loop2
 returns-2 c = read-none (c .before .before .before .before .before .before .before .pre .within)

@@ -8,10 +8,11 @@ use denote.Ref.{now}
 use Rattle.forms.specs.Form.{encode, span}
 use Rattle.forms.specs.Forms.{utf16, fssUtf}
 use Rattle.forms.specs.Buffer.{withUnits}
+use Rattle.laws.proofs.Rows.{within-true}
 use Rattle.laws.proofs.Progress.{CharacterAt, character-onward}
 use Rattle.laws.proofs.Runs.{Run, run-one, convertible-stands, convertible-character}
 use Rattle.laws.proofs.Values.{WrittenTo, written-none, written-length, written-left, written-room, written-join, written-wrote}
-use Rattle.measure_runs.proofs.Utf16Tests.{not-true, not-false, surrogate-false, surrogate-bounds}
+use Rattle.measure_runs.proofs.Utf16Tests.{not-true, not-false, surrogate-false}
 use Rattle.measure_runs.proofs.Utf16Pairs.{alone}
 use borrow.Author.Needs.{needs}
 use Rattle.runs_from_utf16.proofs.to_fss_utf.each.Statement.{statement}
@@ -142,8 +143,8 @@ add-pair c = omega (arith, inside (c .before .before .before .before .before), s
 pair-requires : tie.Need-pair-requires Inv-loop μ-loop
 pair-requires c κs =
     let i = c .before .before .before .before .before in
-    let b = surrogate-bounds _ (not-false _ (rw (c .before .surrogate .ensures) at (c .if3 .left))) in
-    (convertible-stands (inside i) (written-left (start i .pre .1) (i .before .loop .inv)), b .0, b .1)
+    let b = within-true 0xD800 0xDFFF _ (not-false _ (rw (c .before .surrogate .ensures) at (c .if3 .left))) in
+    (convertible-stands (inside i) (written-left (start i .pre .1) (i .before .loop .inv)), b .0, omega (arith, b .1))
 
 four-requires : tie.Need-four-requires Inv-loop μ-loop
 four-requires c κs = let d = c .before .pair .ensures in (d .1, omega (arith, d .2), room (c .before .before .before .before .before .before .before) (d .0))
