@@ -8,7 +8,7 @@ use Rattle.acceptance.proofs.Condition2.{conversion, measure, room-suff
 use Rattle.acceptance.proofs.Condition3.{good-characters, condition-3, middle-alone}
 use Rattle.acceptance.proofs.FaultTable.{fault-table}
 use Rattle.acceptance.proofs.PairTable.{pair-table}
-use Rattle.acceptance.proofs.Places.{start-at, longest-are}
+use Rattle.acceptance.proofs.Places.{item-found, longest-are}
 use Rattle.acceptance.proofs.Settled.{settled-pair, settled-form}
 use Rattle.acceptance.proofs.Dummies.{no-dummy-converter, no-dummy-reader, not-empty-reading}
 
@@ -33,7 +33,7 @@ acceptance =
       byte-forms = free-bits;
       fault-table = fault-table;
       pair-table = pair-table;
-      starts = each-form _ (λ F k. start-at F (k .finds) (k .positive));
+      found = each-form _ (λ F k. item-found F k);
       longest = longest-are;
       pairs-settled = each-pair _ (λ F G most p k. settled-pair F G);
       forms-settled = each-form _ (λ F k. settled-form F);

@@ -1,5 +1,5 @@
 -- Condition 1 follows from the promises of the calls.
-use Prim.Native.Nat.{ℕ, suc, _+_, _≤_}
+use Prim.Native.Nat.{ℕ, suc, _+_, _≤_, _<_}
 use mathlib.Core.Path.{_≡_, refl, ap, _∙_}
 use mathlib.Core.Logic.{_≢_, _⊎_, inl, inr}
 use mathlib.Core.List.{List, [], _∷_, _++_, map}
@@ -12,22 +12,21 @@ use Rattle.types.specs.declared.Fault.the-variants.{SourceTooLong, BufferTooSho
 use Rattle.types.specs.declared.Item.{Item}
 use Rattle.types.specs.declared.Refusal.{Refusal}
 use Rattle.forms.specs.Fault.{numberOf, limit, refusal}
-use Rattle.forms.specs.Form.{size, Form, firstOf, Content, character, mark, content, span, withSpan, items}
+use Rattle.forms.specs.Form.{size, Form, firstOf, Content, character, mark, content, span, withSpan, spanOf, itemOf, items}
 use Rattle.forms.specs.Conversion.{Outcome, converted, refused, outcome, strict, answerOf, cellsOf}
 use Rattle.forms.specs.Lossy.{valueOf, offsetOf, marks, Outcome as Reading, decoded, refused as unread, lossy}
-use Rattle.forms.specs.Start.{itemStart}
+use Rattle.forms.specs.Finder.{itemCovering}
 use Rattle.laws.specs.TwelvePairs.{Pair}
 use Rattle.laws.proofs.Marks.{mark-most}
 use Rattle.laws.proofs.Spans.{size-within}
-use Rattle.laws.proofs.Starts.{start-over, start-beyond, start-inside}
+use Rattle.laws.proofs.Finder.{found-over, found-beyond, found-inside}
 use Rattle.laws.proofs.Answers.{in-room}
 use Rattle.demand3.proofs.ExactLossy.{exact-lossy}
 use Rattle.reader.specs.Step.{cursor, stepAt}
 use Rattle.c_answers.specs.declared.JkConversion.{JkConversion}
 use Rattle.c_answers.specs.declared.JkDecoding.{JkDecoding}
 use Rattle.c_answers.specs.declared.JkItem.{JkItem}
-use Rattle.c_answers.specs.declared.JkStart.{JkStart}
-use Rattle.c_answers.specs.Answer.{shownItem, itemAnswer, conversionAnswer, startAnswer}
+use Rattle.c_answers.specs.Answer.{shownItem, itemAnswer, foundAnswer, conversionAnswer}
 use Rattle.c_answers.specs.Promises.{ConvertsInC, MeasuresInC, DecodesLossyInC}
 use Rattle.acceptance.specs.FaultNumbers.{Among, strictFaults, measureFaults, decodingFaults}
 use Rattle.acceptance.specs.Condition1.{ItemInside, ConversionCall, MeasureCall, DecodingCall, ReaderCall, FinderCall}
@@ -36,6 +35,7 @@ use Rattle.acceptance.proofs.Each.{Known}
 use Rattle.acceptance.proofs.Outcomes.{refused-with, behind, refusal-place, number-is}
 use Rattle.acceptance.proofs.Decoded.{answer, values, starts}
 use Rattle.acceptance.proofs.Condition2.{when-7, shows, beyond, at-end}
+use Rattle.acceptance.proofs.Places.{shown-length}
 
 front-length : (es d : List ℕ) → length es ≤ length d → length (es ++ drop (length es) d) ≡ length d
 front-length es d h = omega (arith, length-append es (drop (length es) d), length-drop (length es) d)
@@ -136,27 +136,35 @@ module _ (F : Form) where
 
 module _ (F : Form) (known : Known F) (s : List ℕ) (q : ℕ) where
   shown-inside :
-      (r : JkItem) (u : ℕ) (us : List ℕ) (t : Content) → content F (firstOf F u us) ≡ t → r ≡ shownItem (withSpan t (span q (size (firstOf F u us))))
-      → q + size (firstOf F u us) ≤ length s → ItemInside s q r
-  shown-inside r u us (character v) y e k =
-      record {
-        kind = inl (ap (λ (b : JkItem). b .kind) e, ap (λ (b : JkItem). b .fault) e);
-        there = ap (λ (b : JkItem). b .offset) e;
-        moves = omega (arith, ap (λ (b : JkItem). b .length) e);
-        within = omega (arith, ap (λ (b : JkItem). b .length) e);
-      }
-  shown-inside r u us (mark f) y e k =
-      record {
-        kind =
-            inr (
-              ap (λ (b : JkItem). b .kind) e,
-              rw (ap (λ (b : JkItem). b .fault) e) (mark-among F u us (numberOf f) (marks-of F u us (known .own) f y)),
-              ap (λ (b : JkItem). b .value) e,
-            );
-        there = ap (λ (b : JkItem). b .offset) e;
-        moves = omega (arith, ap (λ (b : JkItem). b .length) e);
-        within = omega (arith, ap (λ (b : JkItem). b .length) e);
-      }
+      (r : JkItem) (a u : ℕ) (us : List ℕ) (t : Content) → content F (firstOf F u us) ≡ t → r ≡ shownItem (withSpan t (span a (size (firstOf F u us))))
+      → a + size (firstOf F u us) ≤ length s → (r .offset ≡ a) × ItemInside s r
+  shown-inside r a u us (character v) y e k = (
+    ap (λ (b : JkItem). b .offset) e,
+    record {
+      kind = inl (ap (λ (b : JkItem). b .kind) e, ap (λ (b : JkItem). b .fault) e);
+      moves = omega (arith, ap (λ (b : JkItem). b .length) e);
+      within = omega (arith, ap (λ (b : JkItem). b .length) e, ap (λ (b : JkItem). b .offset) e);
+    },
+  )
+  shown-inside r a u us (mark f) y e k = (
+    ap (λ (b : JkItem). b .offset) e,
+    record {
+      kind =
+          inr (
+            ap (λ (b : JkItem). b .kind) e,
+            rw (ap (λ (b : JkItem). b .fault) e) (mark-among F u us (numberOf f) (marks-of F u us (known .own) f y)),
+            ap (λ (b : JkItem). b .value) e,
+          );
+      moves = omega (arith, ap (λ (b : JkItem). b .length) e);
+      within = omega (arith, ap (λ (b : JkItem). b .length) e, ap (λ (b : JkItem). b .offset) e);
+    },
+  )
+
+  read-inside : (r : JkItem) (a : ℕ) → a < length s → r ≡ shownItem (itemOf F a (firstOf F (getD s a 0) (drop (suc a) s))) → (r .offset ≡ a) × ItemInside s r
+  read-inside r a h e =
+      let u = getD s a 0 in
+      let us = drop (suc a) s in
+      shown-inside r a u us (content F (firstOf F u us)) refl e (omega (arith, size-within F u us, length-drop (suc a) s))
 
   pub reader-call : (r : JkItem) → r ≡ itemAnswer (stepAt F s (cursor q)) → ReaderCall s q r
   reader-call r e =
@@ -164,21 +172,22 @@ module _ (F : Form) (known : Known F) (s : List ℕ) (q : ℕ) where
         over = λ h. e ∙ rw (lt-ltb limit (length s) h);
         beyond = beyond F known s q r e;
         end = at-end F known s q r e;
-        inside =
-            λ w h.
-            let u = getD s q 0 in
-            let us = drop (suc q) s in
-            shown-inside r u us (content F (firstOf F u us)) refl (shows F known s q r e w (omega arith) (u ∷ us) (drop-cons s q 0 h))
-            (omega (arith, size-within F u us, length-drop (suc q) s));
+        inside = λ w h. read-inside r q h (shows F known s q r e w (omega arith) (getD s q 0 ∷ drop (suc q) s) (drop-cons s q 0 h));
       }
 
-  pub finder-call : (r : JkStart) → r ≡ startAnswer (itemStart F s q) → FinderCall s q r
+  pub finder-call : (r : JkItem) → r ≡ foundAnswer (itemCovering F s q) → FinderCall s q r
   finder-call r e =
       record {
-        over = λ h. e ∙ ap startAnswer (start-over F s q h);
-        beyond = λ w h. e ∙ ap startAnswer (start-beyond F s q w h);
+        over = λ h. e ∙ ap foundAnswer (found-over F s q h);
+        beyond = λ w h. e ∙ ap foundAnswer (found-beyond F s q w h);
         inside =
             λ w h.
-            let b = e ∙ ap startAnswer (start-inside F s q w h) in
-            (ap (λ (x : JkStart). x .fault) b, ap (λ (x : JkStart). x .offset) b, omega (arith, ap (λ (x : JkStart). x .start) b));
+            let i = known .finds .inside s q h in
+            let a = (spanOf (i .0)) .offset in
+            let c = known .finds .covers s q (i .0) .0 (i .1) in
+            let k : a < length s = omega (arith, c .from) in
+            let z = known .finds .read s q (i .0) (i .1) (getD s a 0) (drop (suc a) s) (drop-cons s a 0 k) in
+            let y = e ∙ ap foundAnswer (found-inside F s q w (i .0) (i .1)) in
+            let x = read-inside r a k (y ∙ ap shownItem z) in
+            (omega (arith, c .from, x .0), omega (arith, c .to, x .0, ap (λ (b : JkItem). b .length) y, shown-length (i .0)), x .1);
       }

@@ -3,10 +3,10 @@ use Prim.Native.Nat.{ℕ, _<_}
 use native.Mathlib.Omega.{arith}
 use Rattle.forms.specs.Form.{Form}
 use Rattle.laws.specs.TwelvePairs.{Pair}
-use Rattle.laws.specs.Starts.{Finds}
+use Rattle.laws.specs.Finder.{Finds}
 use Rattle.laws.proofs.FormLaws.{Laws}
 use Rattle.laws.proofs.FourForms.{fssUtf-laws, utfEbcdic-laws, utf16-laws, ucs4-laws}
-use Rattle.laws.proofs.Starts.{fssUtf-finds, utfEbcdic-finds, utf16-finds, ucs4-finds}
+use Rattle.laws.proofs.Finder.{fssUtf-finds, utfEbcdic-finds, utf16-finds, ucs4-finds}
 use Rattle.laws.proofs.TwelvePairs.{fssUtf-utfEbcdic, fssUtf-utf16, fssUtf-ucs4, utfEbcdic-fssUtf, utfEbcdic-utf16, utfEbcdic-ucs4, utf16-fssUtf, utf16-utfEbcdic, utf16-ucs4, ucs4-fssUtf, ucs4-utfEbcdic, ucs4-utf16}
 use Rattle.acceptance.specs.Calls.{EachForm, EachPair}
 use Rattle.acceptance.proofs.Marking.{OwnMarks}

@@ -7,9 +7,9 @@ pub mod FirstFaults
 pub mod Outcomes
 pub mod Decoded
 pub mod Condition2
+pub mod Places
 pub mod Condition1
 pub mod Condition3
-pub mod Places
 pub mod Settled
 pub mod Dummies
 pub mod FaultTable

@@ -7,13 +7,12 @@ use mathlib.Core.Path.{_≡_}
 use mathlib.Core.List.{List}
 use Rattle.forms.specs.Form.{Form}
 use Rattle.forms.specs.Forms.{fssUtf, utfEbcdic, utf16, ucs4}
-use Rattle.forms.specs.Start.{itemStart}
+use Rattle.forms.specs.Finder.{itemCovering}
 use Rattle.reader.specs.Step.{cursor, stepAt}
 use Rattle.c_answers.specs.declared.JkConversion.{JkConversion}
 use Rattle.c_answers.specs.declared.JkDecoding.{JkDecoding}
 use Rattle.c_answers.specs.declared.JkItem.{JkItem}
-use Rattle.c_answers.specs.declared.JkStart.{JkStart}
-use Rattle.c_answers.specs.Answer.{itemAnswer, startAnswer}
+use Rattle.c_answers.specs.Answer.{itemAnswer, foundAnswer}
 use Rattle.c_answers.specs.Promises.{ConvertsInC, MeasuresInC, DecodesLossyInC}
 
 pub record EachForm (P : Form → Type 0) : Type 0 where
@@ -52,6 +51,6 @@ DecodingCalls P = EachForm (λ F. (s d e : List ℕ) (r : JkDecoding) (o p : Lis
 abbrev pub ReaderCalls : (Form → List ℕ → ℕ → JkItem → Type 0) → Type 0
 ReaderCalls P = EachForm (λ F. (s : List ℕ) (q : ℕ) (r : JkItem) → r ≡ itemAnswer (stepAt F s (cursor q)) → P F s q r)
 
--- of a start finder
-abbrev pub FinderCalls : (Form → List ℕ → ℕ → JkStart → Type 0) → Type 0
-FinderCalls P = EachForm (λ F. (s : List ℕ) (q : ℕ) (r : JkStart) → r ≡ startAnswer (itemStart F s q) → P F s q r)
+-- of a finder
+abbrev pub FinderCalls : (Form → List ℕ → ℕ → JkItem → Type 0) → Type 0
+FinderCalls P = EachForm (λ F. (s : List ℕ) (q : ℕ) (r : JkItem) → r ≡ foundAnswer (itemCovering F s q) → P F s q r)

@@ -8,8 +8,7 @@ use lib.ListN.{length}
 use Rattle.c_answers.specs.declared.JkConversion.{JkConversion}
 use Rattle.c_answers.specs.declared.JkDecoding.{JkDecoding}
 use Rattle.c_answers.specs.declared.JkItem.{JkItem}
-use Rattle.c_answers.specs.declared.JkStart.{JkStart}
-use Rattle.c_answers.specs.Answer.{jkItem, jkStart}
+use Rattle.c_answers.specs.Answer.{jkItem}
 use Rattle.acceptance.specs.FaultNumbers.{Among, markFaults, conversionFaults, measureFaults, decodingFaults}
 
 -- "A refusal returns its number, a place (that of the item; ... 0 for any number that concerns no item, as 1 and 7) and zero for every count."
@@ -44,12 +43,11 @@ pub record DecodingCall (s d e : List ℕ) (r : JkDecoding) (o p : List ℕ) : T
   pub no-counts : r .fault ≢ 0 → (r .items ≡ 0) × (r .marks ≡ 0)
   pub unchanged : r .fault ≢ 0 → (o ≡ d) × (p ≡ e)
 
--- an item at q: of kind 1, a character; or of kind 2, a mark with its fault. It moves on, and stays within the text.
-pub record ItemInside (s : List ℕ) (q : ℕ) (r : JkItem) : Type 0 where
+-- an item: of kind 1, a character; or of kind 2, a mark with its fault. It has a unit at least, and stays within the text.
+pub record ItemInside (s : List ℕ) (r : JkItem) : Type 0 where
   pub kind : ((r .kind ≡ 1) × (r .fault ≡ 0)) ⊎ ((r .kind ≡ 2) × Among (r .fault) markFaults × (r .value ≡ 0))
-  pub there : r .offset ≡ q
   pub moves : 1 ≤ r .length
-  pub within : q + r .length ≤ length s
+  pub within : r .offset + r .length ≤ length s
 
 -- a one-item reader: "Calls at a place: 1, then 9; a reader may be asked at the end itself and says End". "The one-item reader never gives
 -- 2 to 5 ... as a refusal: they are marks."
@@ -57,10 +55,10 @@ pub record ReaderCall (s : List ℕ) (q : ℕ) (r : JkItem) : Type 0 where
   pub over : 65536 < length s → r ≡ jkItem 3 1 0 0 0
   pub beyond : length s ≤ 65536 → length s < q → r ≡ jkItem 3 9 0 q 0
   pub end : length s ≤ 65536 → length s ≡ q → r ≡ jkItem 0 0 0 q 0
-  pub inside : length s ≤ 65536 → q < length s → ItemInside s q r
+  pub inside : length s ≤ 65536 → q < length s → (r .offset ≡ q) × ItemInside s r
 
--- a start finder: "the start finder may not"
-pub record FinderCall (s : List ℕ) (q : ℕ) (r : JkStart) : Type 0 where
-  pub over : 65536 < length s → r ≡ jkStart 1 0 0
-  pub beyond : length s ≤ 65536 → length s ≤ q → r ≡ jkStart 9 q 0
-  pub inside : length s ≤ 65536 → q < length s → (r .fault ≡ 0) × (r .offset ≡ 0) × (r .start ≤ q)
+-- a finder: "the start finder may not" be asked at the end. The item covers the asked place.
+pub record FinderCall (s : List ℕ) (q : ℕ) (r : JkItem) : Type 0 where
+  pub over : 65536 < length s → r ≡ jkItem 3 1 0 0 0
+  pub beyond : length s ≤ 65536 → length s ≤ q → r ≡ jkItem 3 9 0 q 0
+  pub inside : length s ≤ 65536 → q < length s → (r .offset ≤ q) × (q < r .offset + r .length) × ItemInside s r

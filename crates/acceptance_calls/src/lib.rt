@@ -3,14 +3,13 @@
 // caller, is refused. (What an export promises is proved from the contract of the call behind it.)
 ghost use mathlib.Core.Path.{_≡_};
 ghost use Rattle.forms.specs.Forms.{fssUtf, utfEbcdic, utf16, ucs4};
-ghost use Rattle.forms.specs.Start.{itemStart};
+ghost use Rattle.forms.specs.Finder.{itemCovering};
 ghost use Rattle.reader.specs.Step.{cursor, stepAt, ReadsItem};
-ghost use Rattle.c_answers.specs.Answer.{itemAnswer, startAnswer};
+ghost use Rattle.c_answers.specs.Answer.{itemAnswer, foundAnswer};
 ghost use Rattle.c_answers.specs.Promises.{ConvertsInC, MeasuresInC, DecodesLossyInC};
 use c_answers::JkConversion;
 use c_answers::JkDecoding;
 use c_answers::JkItem;
-use c_answers::JkStart;
 use reader::Cursor;
 use reader::Step;
 
@@ -38,10 +37,10 @@ pub fn fss_utf_item_at(text: &[u8], offset: usize) -> JkItem
     jiskromet::jk_fss_utf_item_at(text, offset)
 }
 
-pub fn fss_utf_item_start(text: &[u8], offset: usize) -> JkStart
-    ensures { λ r. ⌜ r ≡ startAnswer (itemStart fssUtf (now (text .entry)) offset) ⌝ }
+pub fn fss_utf_item_covering(text: &[u8], offset: usize) -> JkItem
+    ensures { λ r. ⌜ r ≡ foundAnswer (itemCovering fssUtf (now (text .entry)) offset) ⌝ }
 {
-    jiskromet::starts::jk_fss_utf_item_start(text, offset)
+    jiskromet::finders::jk_fss_utf_item_covering(text, offset)
 }
 
 pub fn fss_utf_decode_lossy(text: &[u8], values: &mut [u32], starts: &mut [u32]) -> JkDecoding
@@ -110,10 +109,10 @@ pub fn utf_ebcdic_item_at(text: &[u8], offset: usize) -> JkItem
     jiskromet::jk_utf_ebcdic_item_at(text, offset)
 }
 
-pub fn utf_ebcdic_item_start(text: &[u8], offset: usize) -> JkStart
-    ensures { λ r. ⌜ r ≡ startAnswer (itemStart utfEbcdic (now (text .entry)) offset) ⌝ }
+pub fn utf_ebcdic_item_covering(text: &[u8], offset: usize) -> JkItem
+    ensures { λ r. ⌜ r ≡ foundAnswer (itemCovering utfEbcdic (now (text .entry)) offset) ⌝ }
 {
-    jiskromet::starts::jk_utf_ebcdic_item_start(text, offset)
+    jiskromet::finders::jk_utf_ebcdic_item_covering(text, offset)
 }
 
 pub fn utf_ebcdic_decode_lossy(text: &[u8], values: &mut [u32], starts: &mut [u32]) -> JkDecoding
@@ -182,10 +181,10 @@ pub fn utf16_item_at(text: &[u16], offset: usize) -> JkItem
     jiskromet::jk_utf16_item_at(text, offset)
 }
 
-pub fn utf16_item_start(text: &[u16], offset: usize) -> JkStart
-    ensures { λ r. ⌜ r ≡ startAnswer (itemStart utf16 (now (text .entry)) offset) ⌝ }
+pub fn utf16_item_covering(text: &[u16], offset: usize) -> JkItem
+    ensures { λ r. ⌜ r ≡ foundAnswer (itemCovering utf16 (now (text .entry)) offset) ⌝ }
 {
-    jiskromet::starts::jk_utf16_item_start(text, offset)
+    jiskromet::finders::jk_utf16_item_covering(text, offset)
 }
 
 pub fn utf16_decode_lossy(text: &[u16], values: &mut [u32], starts: &mut [u32]) -> JkDecoding
@@ -254,10 +253,10 @@ pub fn ucs4_item_at(text: &[u32], offset: usize) -> JkItem
     jiskromet::jk_ucs4_item_at(text, offset)
 }
 
-pub fn ucs4_item_start(text: &[u32], offset: usize) -> JkStart
-    ensures { λ r. ⌜ r ≡ startAnswer (itemStart ucs4 (now (text .entry)) offset) ⌝ }
+pub fn ucs4_item_covering(text: &[u32], offset: usize) -> JkItem
+    ensures { λ r. ⌜ r ≡ foundAnswer (itemCovering ucs4 (now (text .entry)) offset) ⌝ }
 {
-    jiskromet::starts::jk_ucs4_item_start(text, offset)
+    jiskromet::finders::jk_ucs4_item_covering(text, offset)
 }
 
 pub fn ucs4_decode_lossy(text: &[u32], values: &mut [u32], starts: &mut [u32]) -> JkDecoding

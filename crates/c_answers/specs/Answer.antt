@@ -6,15 +6,15 @@ use Rattle.types.specs.declared.Refusal.{Refusal}
 use Rattle.types.specs.declared.Counts.{Counts}
 use Rattle.types.specs.declared.Conversion.{Conversion}
 use Rattle.types.specs.declared.Decoding.{Decoding}
-use Rattle.types.specs.declared.Start.{Start}
-use Rattle.forms.specs.Answer.{Numbers, refusedBy, conversionNumbers, decodingNumbers, startNumbers, ItemValues, itemValues, itemNumbers}
+use Rattle.types.specs.declared.Found.{Found}
+use Rattle.types.specs.declared.Found.the-variants.{Covered, Refused as NotFound}
+use Rattle.forms.specs.Answer.{Numbers, refusedBy, conversionNumbers, decodingNumbers, ItemValues, itemValues, itemNumbers, foundNumbers}
 use Rattle.reader.specs.Step.{stepNumbers}
 use Rattle.reader.specs.declared.Step.{Step}
 use Rattle.reader.specs.declared.Step.the-variants.{Next, End, Refused}
 use Rattle.c_answers.specs.declared.JkItem.{JkItem}
 use Rattle.c_answers.specs.declared.JkConversion.{JkConversion}
 use Rattle.c_answers.specs.declared.JkDecoding.{JkDecoding}
-use Rattle.c_answers.specs.declared.JkStart.{JkStart}
 
 abbrev pub jkItem : ℕ → ℕ → ℕ → ℕ → ℕ → JkItem
 jkItem k f v p n = record { kind = k; fault = f; value = v; offset = p; length = n }
@@ -33,6 +33,10 @@ stepKind (Next i c) = itemKind i
 stepKind (End c) = 0
 stepKind (Refused r) = 3
 
+abbrev pub foundKind : Found → ℕ
+foundKind (Covered i) = itemKind i
+foundKind (NotFound r) = 3
+
 abbrev pub shownItem : Item → JkItem
 shownItem i = asItem (itemKind i) (itemNumbers i)
 
@@ -41,6 +45,9 @@ refusedItem r = asItem 3 (refusedBy (itemValues 0 0) r)
 
 abbrev pub itemAnswer : Step → JkItem
 itemAnswer s = asItem (stepKind s) (stepNumbers s)
+
+abbrev pub foundAnswer : Found → JkItem
+foundAnswer f = asItem (foundKind f) (foundNumbers f)
 
 abbrev pub jkConversion : ℕ → ℕ → ℕ → JkConversion
 jkConversion f p n = record { fault = f; offset = p; units = n }
@@ -59,12 +66,3 @@ asDecoding n = jkDecoding (n .fault) (n .offset) (n .values .items) (n .values .
 
 abbrev pub decodingAnswer : Decoding → JkDecoding
 decodingAnswer d = asDecoding (decodingNumbers d)
-
-abbrev pub jkStart : ℕ → ℕ → ℕ → JkStart
-jkStart f p n = record { fault = f; offset = p; start = n }
-
-abbrev pub asStart : Numbers ℕ → JkStart
-asStart n = jkStart (n .fault) (n .offset) (n .values)
-
-abbrev pub startAnswer : Start → JkStart
-startAnswer s = asStart (startNumbers s)

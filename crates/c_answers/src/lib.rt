@@ -2,11 +2,11 @@
 use reader::Step;
 use types::Conversion;
 use types::Decoding;
+use types::Found;
 use types::Item;
 use types::Refusal;
-use types::Start;
 ghost use mathlib.Core.Path.{_≡_};
-ghost use Rattle.c_answers.specs.Answer.{itemAnswer, shownItem, refusedItem, conversionAnswer, decodingAnswer, startAnswer};
+ghost use Rattle.c_answers.specs.Answer.{itemAnswer, foundAnswer, shownItem, refusedItem, conversionAnswer, decodingAnswer};
 
 #[repr(C)]
 pub struct JkItem {
@@ -30,6 +30,15 @@ pub fn item_answer(step: Step) -> JkItem
         },
         Step::Next(item, _) => shown_item(item),
         Step::Refused(refusal) => refused_item(refusal),
+    }
+}
+
+pub fn found_answer(found: Found) -> JkItem
+    ensures { λ r. ⌜ r ≡ foundAnswer found ⌝ }
+{
+    match found {
+        Found::Covered(item) => shown_item(item),
+        Found::Refused(refusal) => refused_item(refusal),
     }
 }
 
@@ -129,36 +138,5 @@ fn refused_decoding(refusal: Refusal) -> JkDecoding
         offset: refusal.offset as u64,
         items: 0,
         marks: 0,
-    }
-}
-
-#[repr(C)]
-pub struct JkStart {
-    pub fault: u32,
-    pub offset: u64,
-    pub start: u64,
-}
-
-pub fn start_answer(start: Start) -> JkStart
-    ensures { λ r. ⌜ r ≡ startAnswer start ⌝ }
-{
-    match start {
-        Start::At(offset) => JkStart {
-            fault: 0,
-            offset: 0,
-            start: offset as u64,
-        },
-        Start::Refused(refusal) => refused_start(refusal),
-    }
-}
-
-fn refused_start(refusal: Refusal) -> JkStart
-    ensures { λ r. ⌜ r ≡ startAnswer (Start.Refused refusal) ⌝ }
-{
-    let fault = refusal.fault;
-    JkStart {
-        fault: answers::number(fault),
-        offset: refusal.offset as u64,
-        start: 0,
     }
 }

@@ -6,14 +6,12 @@ use native.Mathlib.Omega.{arith}
 use native.Mathlib.Numerals.{add-one}
 use borrow.Author.Tests.{le-leb, lt-leb}
 use lib.ListN.{length, getD, take, drop}
-use Rattle.types.specs.declared.Start.the-variants.{At}
 use Rattle.forms.specs.Fault.{limit}
 use Rattle.forms.specs.Form.{Role, lead, trailing, invalid, Form}
-use Rattle.forms.specs.Start.{itemStart}
 use Rattle.laws.proofs.FormLaws.{Laws}
-use Rattle.laws.specs.Starts.{unitsBefore, nearest}
+use Rattle.laws.specs.Finder.{unitsBefore, nearest}
 use Rattle.laws.proofs.Distances.{distanceAt, distanceBack, part-nearest}
-use Rattle.laws.proofs.Starts.{start-near}
+use Rattle.laws.proofs.Finder.{Near, near}
 use Rattle.tables.specs.ByteForms.{byteForm, roleNumber}
 use Rattle.tables.specs.declared.ByteForm.{ByteForm}
 use Rattle.tables.specs.declared.ByteForm.the-variants.{FssUtf, UtfEbcdic}
@@ -80,12 +78,11 @@ module _ {F : Form} {s : List ℕ} {passed at n : ℕ} (k : Seeking F s passed a
     seeking-leaves l = sym (next ∙ number-leaves (F .role (getD s (at - 1) 0)) passed rest n e o l)
 
 -- the answer, where as many bytes as the longest item has were searched, up to the asked one
-pub part-start :
+pub part-near :
     (F : Form) → Laws F → (s : List ℕ) (p from n d : ℕ) → length s ≤ limit → p < length s → n ≡ F .longest → from ≡ p + 1 - n
-    → d ≡ distanceBack F 0 (unitsBefore (length (take (p + 1 - from) (drop from s))) (take (p + 1 - from) (drop from s)))
-    → (d ≤ p) × (At (p - d) ≡ itemStart F s p)
-part-start F laws s p from n d w h l b e =
-    start-near F laws s p d w h
+    → d ≡ distanceBack F 0 (unitsBefore (length (take (p + 1 - from) (drop from s))) (take (p + 1 - from) (drop from s))) → Near F s p d
+part-near F laws s p from n d w h l b e =
+    near F laws s p d w h
     (rw b at e
     ∙ ap (distanceBack F 0)
     (part-nearest n (p + 1) s (omega arith) ∙ ap (λ (x : ℕ). nearest x (p + 1) s) l ∙ ap (λ (x : ℕ). nearest (F .longest) x s) (add-one p)))

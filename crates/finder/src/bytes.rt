@@ -1,13 +1,13 @@
-// FSS-UTF and UTF-EBCDIC: by the nearest bytes alone.
+// FSS-UTF and UTF-EBCDIC: the start by the nearest bytes alone.
 use reader::FssUtf;
 use reader::UtfEbcdic;
 use tables::ByteForm;
-use types::Start;
+use types::Found;
 ghost use mathlib.Core.Path.{_≡_};
 ghost use Prim.Native.Nat.{_-_};
 ghost use lib.ListN.{length};
-ghost use Rattle.forms.specs.Start.{itemStart};
-ghost use Rattle.laws.specs.Starts.{unitsBefore};
+ghost use Rattle.forms.specs.Finder.{itemCovering};
+ghost use Rattle.laws.specs.Finder.{unitsBefore};
 ghost use Rattle.laws.proofs.Distances.{distanceBack};
 ghost use Rattle.tables.specs.ByteForms.{byteForm};
 
@@ -51,16 +51,17 @@ fn distance_back(form: ByteForm, near: &[u8]) -> usize
     0
 }
 
-pub fn item_start(form: ByteForm, text: &[u8], offset: usize) -> Start
-    ensures { λ r. ⌜ r ≡ itemStart (byteForm form) (now (text .entry)) offset ⌝ }
+pub fn item_covering(form: ByteForm, text: &[u8], offset: usize) -> Found
+    ensures { λ r. ⌜ r ≡ itemCovering (byteForm form) (now (text .entry)) offset ⌝ }
 {
     if 65536 < text.len() {
-        return Start::Refused(answers::source_too_long());
+        return Found::Refused(answers::source_too_long());
     }
     if text.len() <= offset {
-        return Start::Refused(answers::offset_out_of_range(offset));
+        return Found::Refused(answers::offset_out_of_range(offset));
     }
     let to = offset + 1;
     let from = back(to, longest(form));
-    Start::At(offset - distance_back(form, &text[from..to]))
+    let start = offset - distance_back(form, &text[from..to]);
+    Found::Covered(items::bytes::item_at(form, text, start))
 }

@@ -1,17 +1,17 @@
 // UCS-4: every unit is an item.
-use types::Start;
+use types::Found;
 ghost use mathlib.Core.Path.{_≡_};
 ghost use Rattle.forms.specs.Forms.{ucs4};
-ghost use Rattle.forms.specs.Start.{itemStart};
+ghost use Rattle.forms.specs.Finder.{itemCovering};
 
-pub fn item_start(text: &[u32], offset: usize) -> Start
-    ensures { λ r. ⌜ r ≡ itemStart ucs4 (now (text .entry)) offset ⌝ }
+pub fn item_covering(text: &[u32], offset: usize) -> Found
+    ensures { λ r. ⌜ r ≡ itemCovering ucs4 (now (text .entry)) offset ⌝ }
 {
     if 65536 < text.len() {
-        return Start::Refused(answers::source_too_long());
+        return Found::Refused(answers::source_too_long());
     }
     if text.len() <= offset {
-        return Start::Refused(answers::offset_out_of_range(offset));
+        return Found::Refused(answers::offset_out_of_range(offset));
     }
-    Start::At(offset)
+    Found::Covered(items::ucs4::item_at(text, offset))
 }

@@ -13,9 +13,9 @@ use Rattle.types.specs.declared.Item.{Item}
 use Rattle.types.specs.declared.Item.the-variants.{Character, Mark}
 use Rattle.types.specs.declared.Conversion.{Conversion}
 use Rattle.types.specs.declared.Conversion.the-variants.{Units, Refused}
-use Rattle.types.specs.declared.Start.{Start}
+use Rattle.types.specs.declared.Found.{Found}
 use Rattle.forms.specs.Fault.{limit, refusal}
-use Rattle.forms.specs.Answer.{numbers, conversionNumbers, decodingNumbers, startNumbers, itemValues, itemNumbers}
+use Rattle.forms.specs.Answer.{numbers, conversionNumbers, decodingNumbers, itemValues, itemNumbers, foundNumbers}
 use Rattle.forms.specs.Form.{units, Form, sequences, span, spanOf, items, encode, encodeAll, AllEncodable, WellFormed, OccursAt}
 use Rattle.forms.specs.Exchange.{ebcdicOf}
 use Rattle.forms.specs.Forms.{fssUtf, i8, utfEbcdic, utf16, ucs4}
@@ -26,7 +26,7 @@ use Rattle.forms.specs.Lossy as Lossy
 use Rattle.forms.specs.Lossy.{lossy, counts, valuesIn, startsIn}
 use Rattle.forms.specs.Buffer.{withUnits, Holds}
 use Rattle.forms.specs.Conversion.{refused, refusalAt, convertItems, outcome, strict, answerOf, cellsOf, Measures, Converts}
-use Rattle.forms.specs.Start.{endOf, covering, startOf, itemStart, numbersAt, FindsStart}
+use Rattle.forms.specs.Finder.{endOf, covering, orBeyond, itemCovering, numbersAt, FindsItem}
 
 pub data Example : Type 0 where
   -- a value and its legal encoding, which is read as the value
@@ -216,8 +216,8 @@ settled F G s d o p q r a b = (a .answer ∙ sym (b .answer), a .numbers ∙ sym
 pub length-settled : (F G : Form) (s : List ℕ) (q r : Conversion) → Measures F G s q → Measures F G s r → (q ≡ r) × (conversionNumbers q ≡ conversionNumbers r)
 length-settled F G s q r a b = (a .answer ∙ sym (b .answer), a .numbers ∙ sym (b .numbers))
 
-pub start-settled : (F : Form) (s : List ℕ) (p : ℕ) (q r : Start) → FindsStart F s p q → FindsStart F s p r → (q ≡ r) × (startNumbers q ≡ startNumbers r)
-start-settled F s p q r a b = (a .answer ∙ sym (b .answer), a .numbers ∙ sym (b .numbers))
+pub found-settled : (F : Form) (s : List ℕ) (p : ℕ) (q r : Found) → FindsItem F s p q → FindsItem F s p r → (q ≡ r) × (foundNumbers q ≡ foundNumbers r)
+found-settled F s p q r a b = (a .answer ∙ sym (b .answer), a .numbers ∙ sym (b .numbers))
 
 pub held-settled : (d e o p : List ℕ) (m n : ℕ) → Holds d e m o → Holds d e n p → (m ≡ n) × (o ≡ p)
 held-settled d e o p m n a b =
@@ -315,12 +315,14 @@ pub decoded-numbers :
     map (λ n. Lossy.outcomeNumbers (lossy fssUtf cut 3 n)) (2 ∷ 3 ∷ []) ≡ numbers 7 0 (counts 0 0) ∷ numbers 0 0 (counts 3 1) ∷ []
 decoded-numbers = refl
 
-pub start-numbers : map startNumbers (Start.At 4 ∷ Start.Refused (refusal OffsetOutOfRange 7) ∷ []) ≡ numbers 0 0 4 ∷ numbers 9 7 0 ∷ []
-start-numbers = refl
-
 pub item-numbers :
     map itemNumbers (Character 0xA9 (span 1 2) ∷ Mark MissingTrailing (span 4 2) ∷ []) ≡ numbers 0 1 (itemValues 0xA9 2) ∷ numbers 2 4 (itemValues 0 2) ∷ []
 item-numbers = refl
+
+pub found-numbers :
+    map foundNumbers (Found.Covered (Character 0xA9 (span 1 2)) ∷ Found.Covered (Mark MissingTrailing (span 4 2)) ∷ Found.Refused (refusal OffsetOutOfRange 7) ∷ [])
+    ≡ numbers 0 1 (itemValues 0xA9 2) ∷ numbers 2 4 (itemValues 0 2) ∷ numbers 9 7 (itemValues 0 0) ∷ []
+found-numbers = refl
 
 pub named-values : ((itemValues 0xA9 2) .value ≡ 0xA9) × ((itemValues 0xA9 2) .length ≡ 2)
 named-values = (refl, refl)
@@ -332,19 +334,30 @@ characters = refl
 pub no-surrogate-behind : AllEncodable utf16 (0x41 ∷ 0xD800 ∷ []) → ⊥
 no-surrogate-behind a = a .1 .0 refl
 
--- the start of the item at each offset of the listing, and 9 with the offset from its end on; a pair behind a high unit
-pub listed-item-starts :
-    map (itemStart fssUtf listing) (0 ∷ 1 ∷ 2 ∷ 3 ∷ 4 ∷ 5 ∷ 6 ∷ 7 ∷ 8 ∷ [])
-    ≡ Start.At 0 ∷ Start.At 1 ∷ Start.At 1 ∷ Start.At 3 ∷ Start.At 4 ∷ Start.At 4 ∷ Start.At 6 ∷ Start.Refused (refusal OffsetOutOfRange 7) ∷ Start.Refused (refusal OffsetOutOfRange 8) ∷ []
-listed-item-starts = refl
+-- the item that covers each offset of the listing, and 9 with the offset from its end on; a pair behind a high unit
+pub listed-items-covering :
+    map (itemCovering fssUtf listing) (0 ∷ 1 ∷ 2 ∷ 3 ∷ 4 ∷ 5 ∷ 6 ∷ 7 ∷ 8 ∷ [])
+    ≡ Found.Covered (Character 0x41 (span 0 1)) ∷
+    Found.Covered (Character 0xA9 (span 1 2)) ∷
+    Found.Covered (Character 0xA9 (span 1 2)) ∷
+    Found.Covered (Mark StrayTrailing (span 3 1)) ∷
+    Found.Covered (Mark MissingTrailing (span 4 2)) ∷
+    Found.Covered (Mark MissingTrailing (span 4 2)) ∷
+    Found.Covered (Character 0x0A (span 6 1)) ∷
+    Found.Refused (refusal OffsetOutOfRange 7) ∷
+    Found.Refused (refusal OffsetOutOfRange 8) ∷
+    []
+listed-items-covering = refl
 
-pub pair-starts : map (itemStart utf16 (0xD800 ∷ 0xD800 ∷ 0xDC00 ∷ [])) (0 ∷ 1 ∷ 2 ∷ []) ≡ Start.At 0 ∷ Start.At 1 ∷ Start.At 1 ∷ []
-pair-starts = refl
+pub pair-covering :
+    map (itemCovering utf16 (0xD800 ∷ 0xD800 ∷ 0xDC00 ∷ [])) (0 ∷ 1 ∷ 2 ∷ [])
+    ≡ Found.Covered (Mark MissingTrailing (span 0 1)) ∷ Found.Covered (Character 0x10000 (span 1 2)) ∷ Found.Covered (Character 0x10000 (span 1 2)) ∷ []
+pair-covering = refl
 
-pub start-promise : FindsStart fssUtf listing 5 (Start.At 4)
-start-promise = record { answer = refl; numbers = refl }
+pub found-promise : FindsItem fssUtf listing 5 (Found.Covered (Mark MissingTrailing (span 4 2)))
+found-promise = record { answer = refl; numbers = refl }
 
-pub beyond-promise : FindsStart fssUtf listing 7 (Start.Refused (refusal OffsetOutOfRange 7))
+pub beyond-promise : FindsItem fssUtf listing 7 (Found.Refused (refusal OffsetOutOfRange 7))
 beyond-promise = record { answer = refl; numbers = refl }
 
 -- the item itself, and the offset behind it
@@ -355,11 +368,11 @@ pub item-end : endOf (Mark MissingTrailing (span 4 2)) ≡ 6
 item-end = refl
 
 -- 1 before 9, above the limit only
-pub start-at-the-limit : (F : Form) (s : List ℕ) (p : ℕ) → length s ≤ 65536 → itemStart F s p ≡ startOf p (covering (items F s) p)
-start-at-the-limit F s p h = rw (le-ltb limit (length s) h)
+pub found-at-the-limit : (F : Form) (s : List ℕ) (p : ℕ) → length s ≤ 65536 → itemCovering F s p ≡ orBeyond p (covering (items F s) p)
+found-at-the-limit F s p h = rw (le-ltb limit (length s) h)
 
-pub start-above-the-limit : (F : Form) (s : List ℕ) (p : ℕ) → 65537 ≤ length s → itemStart F s p ≡ Start.Refused (refusal SourceTooLong 0)
-start-above-the-limit F s p h = rw (lt-ltb limit (length s) h)
+pub found-above-the-limit : (F : Form) (s : List ℕ) (p : ℕ) → 65537 ≤ length s → itemCovering F s p ≡ Found.Refused (refusal SourceTooLong 0)
+found-above-the-limit F s p h = rw (lt-ltb limit (length s) h)
 
-pub start-numbers-above-the-limit : (F : Form) (s : List ℕ) (p : ℕ) → 65537 ≤ length s → numbersAt F s p ≡ startNumbers (Start.Refused (refusal SourceTooLong 0))
-start-numbers-above-the-limit F s p h = rw (lt-ltb limit (length s) h)
+pub found-numbers-above-the-limit : (F : Form) (s : List ℕ) (p : ℕ) → 65537 ≤ length s → numbersAt F s p ≡ foundNumbers (Found.Refused (refusal SourceTooLong 0))
+found-numbers-above-the-limit F s p h = rw (lt-ltb limit (length s) h)

@@ -8,8 +8,8 @@ use Rattle.types.specs.declared.Conversion.{Conversion}
 use Rattle.types.specs.declared.Conversion.the-variants.{Units, Refused as NoUnits}
 use Rattle.types.specs.declared.Decoding.{Decoding}
 use Rattle.types.specs.declared.Decoding.the-variants.{Decoded, Refused as NotDecoded}
-use Rattle.types.specs.declared.Start.{Start}
-use Rattle.types.specs.declared.Start.the-variants.{At, Refused as NoStart}
+use Rattle.types.specs.declared.Found.{Found}
+use Rattle.types.specs.declared.Found.the-variants.{Covered, Refused as NotFound}
 use Rattle.forms.specs.Fault.{numberOf}
 
 -- an answer in numbers: that of its fault, 0 for none; a place; and the values that the call returns
@@ -39,11 +39,6 @@ abbrev pub decodingNumbers : Decoding → Numbers Counts
 decodingNumbers (Decoded c) = returned c
 decodingNumbers (NotDecoded r) = refusedBy (record { items = 0; marks = 0 }) r
 
--- the start finder: the start
-abbrev pub startNumbers : Start → Numbers ℕ
-startNumbers (At p) = returned p
-startNumbers (NoStart r) = refusedBy 0 r
-
 -- an item: the value of a character, and how many code units it has
 pub record ItemValues : Type 0 where
   pub value : ℕ
@@ -56,3 +51,8 @@ itemValues v n = record { value = v; length = n }
 abbrev pub itemNumbers : Item → Numbers ItemValues
 itemNumbers (Character v p) = numbers 0 (p .offset) (itemValues v (p .length))
 itemNumbers (Mark f p) = numbers (numberOf f) (p .offset) (itemValues 0 (p .length))
+
+-- the finder: the item
+abbrev pub foundNumbers : Found → Numbers ItemValues
+foundNumbers (Covered i) = itemNumbers i
+foundNumbers (NotFound r) = refusedBy (itemValues 0 0) r

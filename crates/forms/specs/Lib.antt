@@ -9,4 +9,4 @@ pub mod Flags
 pub mod Buffer
 pub mod Conversion
 pub mod Lossy
-pub mod Start
+pub mod Finder

@@ -1,11 +1,11 @@
 // What a gateway links: the calls of the library under their C names, as `include/jiskromet.h` declares them. Here: the item at an offset;
-// `conversions`, `decodings` and `starts` have the others.
+// `conversions`, `decodings` and `finders` have the others.
 //
 // Each answer is a struct of numbers: `c_answers` has them, in `specs/Answer` which number stands for which case, and in `specs/Promises`
 // what converters, measures and lossy decodings promise.
 pub mod conversions;
 pub mod decodings;
-pub mod starts;
+pub mod finders;
 
 use c_answers::JkItem;
 use reader::Cursor;

@@ -11,7 +11,7 @@ use borrow.Author.Tests.{lt-ltb, le-ltb, le-leb, lt-leb}
 use lib.ListN.{length, getD, take, drop, length-append, length-drop, take-append-drop}
 use lib.Seq.{drop-cons, drop-append-le, length-take-le, take-all, getD-take, getD-drop}
 use Rattle.forms.specs.Form.{Role, lead, trailing, invalid, Sequence, size, Form, asked, isTrailing, taken, sequences}
-use Rattle.laws.specs.Starts.{unitsBefore, nearest}
+use Rattle.laws.specs.Finder.{unitsBefore, nearest}
 use Rattle.laws.specs.LayoutTable.{AllTrailing}
 use Rattle.laws.proofs.Sequences.{joined, sequences-after, sequences-border, sequences-joined}
 use Rattle.laws.proofs.FormLaws.{Laws}

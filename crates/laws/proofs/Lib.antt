@@ -28,7 +28,7 @@ pub mod RoundTrip
 pub mod TwelvePairs
 pub mod Distances
 pub mod Starts
-pub mod StartRefusals
+pub mod Finder
 pub mod StartsOfUnits
 pub mod UnitEncodings
 pub mod Runs

@@ -44,6 +44,13 @@ module _ (F : Form) where
   taken-most (suc k) [] = omega arith
   taken-most (suc k) (u ∷ us) = most-cond (isTrailing (F .role u)) u k us (taken-most k us)
 
+  -- units behind those that are asked tell nothing
+  pub taken-take : (k m : ℕ) (us : List ℕ) → k ≤ m → taken F k (take m us) ≡ taken F k us
+  taken-take zero m us h = refl
+  taken-take (suc k) zero us h = absurd (not-suc-le-zero h)
+  taken-take (suc k) (suc m) [] h = refl
+  taken-take (suc k) (suc m) (u ∷ us) h = ap (λ (t : List ℕ). cond (isTrailing (F .role u)) (u ∷ t) []) (taken-take k m us (le-of-suc-le-suc h))
+
   trailing-cond : (o : Role) (u k : ℕ) (us : List ℕ) → F .role u ≡ o → AllTrailing F (taken F k us) → AllTrailing F (cond (isTrailing o) (u ∷ taken F k us) [])
   trailing-cond (lead j) u k us e a = tt
   trailing-cond trailing u k us e a = (e, a)

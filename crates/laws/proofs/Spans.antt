@@ -20,7 +20,7 @@ item-span F p c = with-span (content F c) (span p (size c))
 pub size-within : (F : Form) (u : ℕ) (us : List ℕ) → size (firstOf F u us) ≤ suc (length us)
 size-within F u us = omega (arith, taken-length F (asked (F .role u)) us)
 
-asked-longest : (F : Form) → Laws F → 0 < F .longest → (u : ℕ) (o : Role) → F .role u ≡ o → asked o < F .longest
+pub asked-longest : (F : Form) → Laws F → 0 < F .longest → (u : ℕ) (o : Role) → F .role u ≡ o → asked o < F .longest
 asked-longest F l p u (lead k) e = l .reach u k e
 asked-longest F l p u trailing e = p
 asked-longest F l p u invalid e = p

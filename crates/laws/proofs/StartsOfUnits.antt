@@ -1,25 +1,19 @@
--- The start of an item of UTF-16, by the asked unit and the one before it, and of UCS-4, the offset itself.
+-- How far back an item of UTF-16 starts, by the asked unit and the one before it; an item of UCS-4 starts at the offset itself.
 use Prim.Native.Nat.{ℕ, zero, suc, _-_, _≤_, _<_}
 use mathlib.Core.Path.{_≡_, refl, sym, ap, _∙_}
 use mathlib.Core.Bool.{false}
 use mathlib.Core.List.{List, [], _∷_}
 use native.Mathlib.Omega.{arith}
-use native.Mathlib.Nat.{sub-zero}
 use borrow.Author.Tests.{le-leb}
 use lib.ListN.{length, getD, take}
-use Rattle.types.specs.declared.Start.the-variants.{At}
-use Rattle.forms.specs.Fault.{limit}
 use Rattle.forms.specs.Form.{Role, lead, trailing, invalid, Form, isTrailing}
 use Rattle.forms.specs.Layout.{roleOf}
 use Rattle.forms.specs.Forms.{utf16Layout, utf16, ucs4}
-use Rattle.forms.specs.Start.{itemStart}
-use Rattle.laws.proofs.FormLaws.{Laws}
 use Rattle.laws.proofs.Digits.{IsDigit}
 use Rattle.laws.proofs.LayoutLaws.{not-trailing, in-row}
-use Rattle.laws.proofs.FourForms.{utf16-fits, utf16-laws, ucs4-laws, high-unit, low-unit}
-use Rattle.laws.specs.Starts.{unitsBefore, nearest}
+use Rattle.laws.proofs.FourForms.{utf16-fits, high-unit, low-unit}
+use Rattle.laws.specs.Finder.{unitsBefore, nearest}
 use Rattle.laws.proofs.Distances.{distanceAt, distanceBack}
-use Rattle.laws.proofs.Starts.{start-near}
 
 -- a unit that does not trail starts its item, and so does one before which nothing tells
 distance-none : (o : Role) (d : ℕ) → isTrailing o ≡ false → distanceAt o 0 d ≡ 0
@@ -31,9 +25,6 @@ distance-first : (o : Role) → distanceAt o 0 0 ≡ 0
 distance-first (lead k) = rw (le-leb 0 k (omega arith))
 distance-first trailing = refl
 distance-first invalid = refl
-
-at-offset : (F : Form) → Laws F → (s : List ℕ) (p : ℕ) → length s ≤ limit → p < length s → distanceBack F 0 (nearest (F .longest) (suc p) s) ≡ 0 → At p ≡ itemStart F s p
-at-offset F laws s p w h e = ap At (sym (sub-zero p)) ∙ start-near F laws s p 0 w h (sym e) .1
 
 -- a unit that is no high one takes no low unit behind it
 abbrev IsHigh : ℕ → Type 0
@@ -54,28 +45,25 @@ nearest-two s p h = let q : p ≡ suc (p - 1) = omega arith in ap (λ (x : ℕ).
 nearest-one : (s : List ℕ) (p : ℕ) → p ≡ 0 → nearest 2 (suc p) s ≡ getD s p 0 ∷ []
 nearest-one s p e = ap (λ (x : ℕ). getD s p 0 ∷ take 1 (unitsBefore x s)) e
 
-module _ (s : List ℕ) (p : ℕ) (w : length s ≤ limit) (h : p < length s) where
-  pub ucs4-start : At p ≡ itemStart ucs4 s p
-  ucs4-start = at-offset ucs4 ucs4-laws s p w h (distance-first (ucs4 .role (getD s p 0)))
+module _ (s : List ℕ) (p : ℕ) where
+  pub ucs4-none-back : 0 ≡ distanceBack ucs4 0 (nearest 1 (suc p) s)
+  ucs4-none-back = sym (distance-first (ucs4 .role (getD s p 0)))
 
-  pub utf16-not-low : (IsDigit 0xDC00 0x400 (getD s p 0) → ⊥) → At p ≡ itemStart utf16 s p
+  pub utf16-not-low : (IsDigit 0xDC00 0x400 (getD s p 0) → ⊥) → 0 ≡ distanceBack utf16 0 (nearest 2 (suc p) s)
   utf16-not-low n =
-      at-offset utf16 utf16-laws s p w h
-      (distance-none (utf16 .role (getD s p 0)) (distanceBack utf16 1 (take 1 (unitsBefore p s))) (not-trailing utf16Layout utf16-fits (getD s p 0) n))
+      sym (distance-none (utf16 .role (getD s p 0)) (distanceBack utf16 1 (take 1 (unitsBefore p s))) (not-trailing utf16Layout utf16-fits (getD s p 0) n))
 
-  pub utf16-first : p ≡ 0 → At p ≡ itemStart utf16 s p
-  utf16-first e = at-offset utf16 utf16-laws s p w h (ap (distanceBack utf16 0) (nearest-one s p e) ∙ distance-first (utf16 .role (getD s p 0)))
+  pub utf16-first : p ≡ 0 → 0 ≡ distanceBack utf16 0 (nearest 2 (suc p) s)
+  utf16-first e = sym (ap (distanceBack utf16 0) (nearest-one s p e) ∙ distance-first (utf16 .role (getD s p 0)))
 
   module _ (f : 0 < p) where
-    pub utf16-unpaired : (IsHigh (getD s (p - 1) 0) → ⊥) → At p ≡ itemStart utf16 s p
+    pub utf16-unpaired : (IsHigh (getD s (p - 1) 0) → ⊥) → 0 ≡ distanceBack utf16 0 (nearest 2 (suc p) s)
     utf16-unpaired n =
-        at-offset utf16 utf16-laws s p w h
-        (ap (distanceBack utf16 0) (nearest-two s p f)
+        sym (ap (distanceBack utf16 0) (nearest-two s p f)
         ∙ ap (distanceAt (utf16 .role (getD s p 0)) 0) (not-high (getD s (p - 1) 0) n (utf16 .role (getD s (p - 1) 0)) refl)
         ∙ distance-first (utf16 .role (getD s p 0)))
 
-    pub utf16-paired : 0xDC00 ≤ getD s p 0 → getD s p 0 < 0xE000 → IsHigh (getD s (p - 1) 0) → At (p - 1) ≡ itemStart utf16 s p
+    pub utf16-paired : 0xDC00 ≤ getD s p 0 → getD s p 0 < 0xE000 → IsHigh (getD s (p - 1) 0) → 1 ≡ distanceBack utf16 0 (nearest 2 (suc p) s)
     utf16-paired l m n =
-        start-near utf16 utf16-laws s p 1 w h
-        (sym (ap (distanceBack utf16 0) (nearest-two s p f)
-        ∙ rw (low-unit (getD s p 0) l (omega arith), high-unit (getD s (p - 1) 0) (n .0) (omega (arith, n .1))))) .1
+        sym (ap (distanceBack utf16 0) (nearest-two s p f)
+        ∙ rw (low-unit (getD s p 0) l (omega arith), high-unit (getD s (p - 1) 0) (n .0) (omega (arith, n .1))))

@@ -2,5 +2,5 @@ pub mod Exactness
 pub mod RoundTrip
 pub mod Room
 pub mod TwelvePairs
-pub mod Starts
+pub mod Finder
 pub mod LayoutTable

@@ -43,9 +43,9 @@ pub enum Decoding {
     Refused(Refusal),
 }
 
-// The answer of a start finder: the offset at which the item starts, or the refusal.
-pub enum Start {
-    At(usize),
+// The answer of a finder: the item that covers the asked offset, or the refusal.
+pub enum Found {
+    Covered(Item),
     Refused(Refusal),
 }
 
