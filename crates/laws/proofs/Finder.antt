@@ -178,7 +178,9 @@ module _ (F : Form) (laws : Laws F) (positive : 0 < F .longest) where
       (n a b : ℕ) (s t : List ℕ) (u v : ℕ) (us vs : List ℕ) → F .longest ≡ suc n → SameAhead F s a t b → drop a s ≡ u ∷ us → drop b t ≡ v ∷ vs
       → firstOf F u us ≡ firstOf F v vs
   same-sequence n a b s t u v us vs e h c d =
-      same-first F n u v us vs (omega (arith, asked-longest F laws positive u (F .role u) refl)) (rw (e, c, d) at (h .units))
+      let x : u ∷ take n us ≡ take (F .longest) (drop a s) = ap (take (suc n)) (sym c) ∙ ap (λ (k : ℕ). take k (drop a s)) (sym e) in
+      let y : v ∷ take n vs ≡ take (F .longest) (drop b t) = ap (take (suc n)) (sym d) ∙ ap (λ (k : ℕ). take k (drop b t)) (sym e) in
+      same-first F n u v us vs (omega (arith, asked-longest F laws positive u (F .role u) refl)) (x ∙ h .units ∙ sym y)
 
   same-ahead :
       (s t : List ℕ) (p q : ℕ) (i j : Item) → covering (items F s) p ≡ some i → covering (items F t) q ≡ some j
