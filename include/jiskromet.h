@@ -66,7 +66,7 @@ static inline const char *jk_fault_text(uint32_t fault) {
 
 /* What stands at an offset. */
 enum jk_item_kind {
-    JK_END = 0,       /* the end of the text */
+    JK_END = 0,       /* the end of the text; only jk_F_item_at gives it */
     JK_CHARACTER = 1, /* a character, with its value */
     JK_MARK = 2,      /* code units that are no character, with the fault that says why */
     JK_REFUSAL = 3    /* no answer: fault 1 (offset 0) or fault 9 (offset as asked) */
@@ -76,7 +76,7 @@ typedef struct jk_item {
     uint32_t kind;   /* enum jk_item_kind */
     uint32_t fault;  /* enum jk_fault; 0 unless a mark or a refusal */
     uint32_t value;  /* the character's value, 0 otherwise */
-    uint64_t offset; /* the offset asked at; of a refusal, the place that the fault concerns */
+    uint64_t offset; /* where the item starts, or the text ends; of a refusal, the place that the fault concerns */
     uint64_t length; /* how many code units the item has; 0 for the end and a refusal */
 } jk_item;
 
@@ -85,6 +85,17 @@ jk_item jk_fss_utf_item_at(const uint8_t *text, size_t len, size_t offset);
 jk_item jk_utf_ebcdic_item_at(const uint8_t *text, size_t len, size_t offset);
 jk_item jk_utf16_item_at(const uint16_t *text, size_t len, size_t offset);
 jk_item jk_ucs4_item_at(const uint32_t *text, size_t len, size_t offset);
+
+/* The item that covers an offset, in the reading of the whole text. Use it to cut a text without cutting a character,
+ * at the item's offset; to step backwards, by asking one unit before an item; and to learn what a cursor in the middle
+ * of a text stands in. Every unit of an item gives the same answer, that of jk_F_item_at where the item starts.
+ *
+ * However long the text is, it looks back at most five bytes in FSS-UTF, six in UTF-EBCDIC, one unit in UTF-16, none in
+ * UCS-4, and from the item's start ahead as far as the longest item reaches. At or past the text's end it is fault 9. */
+jk_item jk_fss_utf_item_covering(const uint8_t *text, size_t len, size_t offset);
+jk_item jk_utf_ebcdic_item_covering(const uint8_t *text, size_t len, size_t offset);
+jk_item jk_utf16_item_covering(const uint16_t *text, size_t len, size_t offset);
+jk_item jk_ucs4_item_covering(const uint32_t *text, size_t len, size_t offset);
 
 /* The answer of a conversion or of its length. */
 typedef struct jk_conversion {
@@ -184,21 +195,6 @@ jk_decoding jk_utf16_decode_lossy(const uint16_t *text, size_t len, uint32_t *va
                                   uint32_t *starts, size_t starts_len);
 jk_decoding jk_ucs4_decode_lossy(const uint32_t *text, size_t len, uint32_t *values, size_t values_len,
                                  uint32_t *starts, size_t starts_len);
-
-/* The answer of a start finder. */
-typedef struct jk_start {
-    uint32_t fault;  /* enum jk_fault: 1, 9, or 0 where there is none */
-    uint64_t offset; /* of fault 9 the asked offset; 0 otherwise */
-    uint64_t start;  /* the offset at which the item starts; 0 of a refusal */
-} jk_start;
-
-/* The start of the item that covers an offset, in the reading of the whole text. It looks back at most five bytes in
- * FSS-UTF, six in UTF-EBCDIC, one unit in UTF-16, none in UCS-4, however long the text is. An offset at or past the end
- * is fault 9. */
-jk_start jk_fss_utf_item_start(const uint8_t *text, size_t len, size_t offset);
-jk_start jk_utf_ebcdic_item_start(const uint8_t *text, size_t len, size_t offset);
-jk_start jk_utf16_item_start(const uint16_t *text, size_t len, size_t offset);
-jk_start jk_ucs4_item_start(const uint32_t *text, size_t len, size_t offset);
 
 #ifdef __cplusplus
 }

@@ -46,14 +46,26 @@ static void rooms(void) {
     expect(jk_ucs4_to_utf_ebcdic(last_value, COUNT(last_value), host, sizeof host).units == sizeof host / 2, "a sum is not taken whole");
 }
 
+static int same(jk_item a, jk_item b) {
+    return a.kind == b.kind && a.fault == b.fault && a.value == b.value && a.offset == b.offset && a.length == b.length;
+}
+
+/* The text is the longest item of its form, read whole from its first unit and from its last. No item covers its end. */
+#define LONGEST(text, form, FORM) \
+    expect(jk_##form##_item_at(text, COUNT(text), 0).length == JK_##FORM##_LONGEST_ITEM, "JK_" #FORM "_LONGEST_ITEM"); \
+    expect(same(jk_##form##_item_covering(text, COUNT(text), COUNT(text) - 1), jk_##form##_item_at(text, COUNT(text), 0)), \
+           "jk_" #form "_item_covering does not give the item whole"); \
+    expect(jk_##form##_item_covering(text, COUNT(text), COUNT(text)).fault == JK_OFFSET_OUT_OF_RANGE, \
+           "jk_" #form "_item_covering gives an item at the end")
+
 static void limits(void) {
     const uint8_t fss_utf[] = {0xFD, 0xBF, 0xBF, 0xBF, 0xBF, 0xBF};
     const uint8_t utf_ebcdic[] = {0xE1, 0xFE, 0xFE, 0xFE, 0xFE, 0xFE, 0xFE};
     const uint16_t utf16[] = {0xD800, 0xDC00};
-    expect(jk_fss_utf_item_at(fss_utf, COUNT(fss_utf), 0).length == JK_FSS_UTF_LONGEST_ITEM, "JK_FSS_UTF_LONGEST_ITEM");
-    expect(jk_utf_ebcdic_item_at(utf_ebcdic, COUNT(utf_ebcdic), 0).length == JK_UTF_EBCDIC_LONGEST_ITEM, "JK_UTF_EBCDIC_LONGEST_ITEM");
-    expect(jk_utf16_item_at(utf16, COUNT(utf16), 0).length == JK_UTF16_LONGEST_ITEM, "JK_UTF16_LONGEST_ITEM");
-    expect(jk_ucs4_item_at(last_value, COUNT(last_value), 0).length == JK_UCS4_LONGEST_ITEM, "JK_UCS4_LONGEST_ITEM");
+    LONGEST(fss_utf, fss_utf, FSS_UTF);
+    LONGEST(utf_ebcdic, utf_ebcdic, UTF_EBCDIC);
+    LONGEST(utf16, utf16, UTF16);
+    LONGEST(last_value, ucs4, UCS4);
     expect(jk_fss_utf_to_ucs4_length(zeros, JK_MAX_UNITS).units == JK_MAX_UNITS, "JK_MAX_UNITS are not taken");
     expect(jk_fss_utf_to_ucs4_length(zeros, JK_MAX_UNITS + 1).fault == JK_SOURCE_TOO_LONG, "more than JK_MAX_UNITS are taken");
 }

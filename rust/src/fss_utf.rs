@@ -99,7 +99,7 @@ readers! {
     ///     if alarm.len() <= 24 {
     ///         return Ok(alarm);
     ///     }
-    ///     Ok(&alarm[..fss_utf::item_start(alarm, 24)?])
+    ///     Ok(&alarm[..fss_utf::item_covering(alarm, 24)?.offset])
     /// }
     ///
     /// let alarm = "Verdampfer 2: Fühler −18 °C".as_bytes();
@@ -107,7 +107,7 @@ readers! {
     /// assert_eq!(cut(b"Pumpe 1 steht")?, b"Pumpe 1 steht");
     /// # Ok::<(), Refusal>(())
     /// ```
-    item_start = jk_fss_utf_item_start;
+    item_covering = jk_fss_utf_item_covering;
 
     /// ```
     /// use jiskromet::{fss_utf, Content, Fault};

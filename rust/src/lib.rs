@@ -39,8 +39,8 @@
 //! | `to_G_vec` | strict conversion in a vector of the right length |
 //! | `decode_lossy` | the values and starts of all items of a text, damaged or not, in two lent buffers |
 //! | `items` | an iterator over the items, from either end |
-//! | `item_at` | the item at an offset |
-//! | `item_start` | where the item starts that covers an offset |
+//! | `item_at` | the item at an offset, read as though the text began there |
+//! | `item_covering` | the item that covers an offset, in the reading of the whole text |
 //!
 //! Only `to_G_vec` allocates.
 //!

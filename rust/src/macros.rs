@@ -98,7 +98,8 @@ macro_rules! conversions {
     )* };
 }
 
-/// The calls that read a form: lossy decoding, item, start of an item, items.
+/// The calls that read a form: lossy decoding, the item at an offset, the item
+/// that covers one, all items.
 macro_rules! readers {
     (
         $form:literal, [$unit:ty], longest $longest:literal;
@@ -106,8 +107,8 @@ macro_rules! readers {
         decode_lossy = $jk_decode_lossy:ident;
         $(#[$item_at:meta])*
         item_at = $jk_item_at:ident;
-        $(#[$item_start:meta])*
-        item_start = $jk_item_start:ident;
+        $(#[$item_covering:meta])*
+        item_covering = $jk_item_covering:ident;
         $(#[$items:meta])*
         items;
     ) => {
@@ -167,25 +168,26 @@ macro_rules! readers {
         #[inline]
         pub fn item_at(text: &[$unit], offset: usize) -> Result<Option<Item>, Refusal> {
             // SAFETY: pointer and length are those of a slice.
-            unsafe { sys::$jk_item_at(text.as_ptr(), text.len(), offset) }.result()
+            unsafe { sys::$jk_item_at(text.as_ptr(), text.len(), offset) }.item_or_end()
         }
 
-        #[doc = concat!("Where the item starts that covers an offset of a text in ", $form, ", in the reading of the whole text.")]
+        #[doc = concat!("The item that covers an offset of a text in ", $form, ", in the reading of the whole text.")]
         ///
-        /// The cost does not grow with the text: the start lies less than [`LONGEST_ITEM`] units back.
+        /// All offsets of an item give the same answer, that of [`item_at`] where the item starts. The
+        /// cost does not grow with the text: the item starts less than [`LONGEST_ITEM`] units back.
         ///
         /// # Errors
         ///
         /// Only for a text of more than [`MAX_UNITS`](crate::MAX_UNITS) units, and for an offset at or
-        /// past its end.
+        /// past its end. Damage is no refusal: it is an item, a mark.
         ///
         /// # Examples
         ///
-        $(#[$item_start])*
+        $(#[$item_covering])*
         #[inline]
-        pub fn item_start(text: &[$unit], offset: usize) -> Result<usize, Refusal> {
+        pub fn item_covering(text: &[$unit], offset: usize) -> Result<Item, Refusal> {
             // SAFETY: pointer and length are those of a slice.
-            unsafe { sys::$jk_item_start(text.as_ptr(), text.len(), offset) }.result()
+            unsafe { sys::$jk_item_covering(text.as_ptr(), text.len(), offset) }.item()
         }
 
         #[doc = concat!("The items of a text in ", $form, ", from either end.")]
@@ -246,8 +248,9 @@ macro_rules! readers {
                 if self.front == self.back {
                     return None;
                 }
-                self.back = item_start(self.text, self.back - 1).expect(NOT_REFUSED);
-                item_at(self.text, self.back).expect(NOT_REFUSED)
+                let item = item_covering(self.text, self.back - 1).expect(NOT_REFUSED);
+                self.back = item.offset;
+                Some(item)
             }
         }
 

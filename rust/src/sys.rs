@@ -32,18 +32,16 @@ pub struct JkDecoding {
     marks: u64,
 }
 
-#[repr(C)]
-pub struct JkStart {
-    fault: u32,
-    offset: u64,
-    start: u64,
-}
-
 extern "C" {
     pub fn jk_fss_utf_item_at(text: *const u8, len: usize, offset: usize) -> JkItem;
     pub fn jk_utf_ebcdic_item_at(text: *const u8, len: usize, offset: usize) -> JkItem;
     pub fn jk_utf16_item_at(text: *const u16, len: usize, offset: usize) -> JkItem;
     pub fn jk_ucs4_item_at(text: *const u32, len: usize, offset: usize) -> JkItem;
+
+    pub fn jk_fss_utf_item_covering(text: *const u8, len: usize, offset: usize) -> JkItem;
+    pub fn jk_utf_ebcdic_item_covering(text: *const u8, len: usize, offset: usize) -> JkItem;
+    pub fn jk_utf16_item_covering(text: *const u16, len: usize, offset: usize) -> JkItem;
+    pub fn jk_ucs4_item_covering(text: *const u32, len: usize, offset: usize) -> JkItem;
 
     pub fn jk_fss_utf_decode_lossy(
         text: *const u8,
@@ -53,7 +51,6 @@ extern "C" {
         starts: *mut u32,
         starts_len: usize,
     ) -> JkDecoding;
-    pub fn jk_fss_utf_item_start(text: *const u8, len: usize, offset: usize) -> JkStart;
 
     pub fn jk_utf_ebcdic_decode_lossy(
         text: *const u8,
@@ -63,7 +60,6 @@ extern "C" {
         starts: *mut u32,
         starts_len: usize,
     ) -> JkDecoding;
-    pub fn jk_utf_ebcdic_item_start(text: *const u8, len: usize, offset: usize) -> JkStart;
 
     pub fn jk_utf16_decode_lossy(
         text: *const u16,
@@ -73,7 +69,6 @@ extern "C" {
         starts: *mut u32,
         starts_len: usize,
     ) -> JkDecoding;
-    pub fn jk_utf16_item_start(text: *const u16, len: usize, offset: usize) -> JkStart;
 
     pub fn jk_ucs4_decode_lossy(
         text: *const u32,
@@ -83,7 +78,6 @@ extern "C" {
         starts: *mut u32,
         starts_len: usize,
     ) -> JkDecoding;
-    pub fn jk_ucs4_item_start(text: *const u32, len: usize, offset: usize) -> JkStart;
 
     pub fn jk_fss_utf_to_utf_ebcdic(
         src: *const u8,
@@ -188,19 +182,27 @@ const MARK: u32 = 2;
 const REFUSAL: u32 = 3;
 
 impl JkItem {
-    pub fn result(self) -> Result<Option<Item>, Refusal> {
+    /// An answer of `item_at`, which may be asked at the text's end.
+    pub fn item_or_end(self) -> Result<Option<Item>, Refusal> {
+        match self.kind {
+            END => Ok(None),
+            _ => self.item().map(Some),
+        }
+    }
+
+    /// An answer of `item_covering`, which is never the text's end.
+    pub fn item(self) -> Result<Item, Refusal> {
         let content = match self.kind {
-            END => return Ok(None),
             CHARACTER => Content::Character(self.value),
             MARK => Content::Mark(named(self.fault)),
             REFUSAL => return Err(refusal(self.fault, self.offset)),
-            kind => panic!("libjiskromet.a gave an item of kind {kind}, which this crate lacks"),
+            kind => panic!("libjiskromet.a gave an item of kind {kind}, which has no place here"),
         };
-        Ok(Some(Item {
+        Ok(Item {
             offset: self.offset as usize,
             length: self.length as usize,
             content,
-        }))
+        })
     }
 }
 
@@ -220,15 +222,6 @@ impl JkDecoding {
                 items: self.items as usize,
                 marks: self.marks as usize,
             }),
-            fault => Err(refusal(fault, self.offset)),
-        }
-    }
-}
-
-impl JkStart {
-    pub fn result(self) -> Result<usize, Refusal> {
-        match self.fault {
-            0 => Ok(self.start as usize),
             fault => Err(refusal(fault, self.offset)),
         }
     }

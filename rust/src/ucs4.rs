@@ -79,16 +79,17 @@ readers! {
     /// A UCS-4 unit is always an item of its own.
     ///
     /// ```
-    /// use jiskromet::{ucs4, Fault, Refusal};
+    /// use jiskromet::{ucs4, Content, Fault, Item, Refusal};
     ///
-    /// let text = [0x34, 0x20];
-    /// assert_eq!(ucs4::item_start(&text, 1), Ok(1));
+    /// let text = [0x34, 0xB0];
+    /// let degree = Item { offset: 1, length: 1, content: Content::Character(0xB0) };
+    /// assert_eq!(ucs4::item_covering(&text, 1), Ok(degree));
     /// assert_eq!(
-    ///     ucs4::item_start(&text, 2),
+    ///     ucs4::item_covering(&text, 2),
     ///     Err(Refusal { fault: Fault::OffsetOutOfRange, offset: 2 })
     /// );
     /// ```
-    item_start = jk_ucs4_item_start;
+    item_covering = jk_ucs4_item_covering;
 
     /// ```
     /// use jiskromet::ucs4;

@@ -74,13 +74,14 @@ readers! {
     item_at = jk_utf16_item_at;
 
     /// ```
-    /// use jiskromet::utf16;
+    /// use jiskromet::{utf16, Content, Item};
     ///
-    /// let text = [0x34, 0xD83D, 0xDD25, 0x43];
-    /// assert_eq!(utf16::item_start(&text, 2), Ok(1));
-    /// assert_eq!(utf16::item_start(&text, 3), Ok(3));
+    /// let text = [0x34, 0xD83D, 0xDD25];
+    /// let pair = Item { offset: 1, length: 2, content: Content::Character(0x1F525) };
+    /// assert_eq!(utf16::item_covering(&text, 1), Ok(pair));
+    /// assert_eq!(utf16::item_covering(&text, 2), Ok(pair));
     /// ```
-    item_start = jk_utf16_item_start;
+    item_covering = jk_utf16_item_covering;
 
     /// ```
     /// use jiskromet::utf16;

@@ -85,13 +85,13 @@ readers! {
     item_at = jk_utf_ebcdic_item_at;
 
     /// ```
-    /// use jiskromet::utf_ebcdic;
+    /// use jiskromet::{utf_ebcdic, Content, Fault, Item};
     ///
-    /// let text = [0xF4, 0x40, 0x47, 0xBF, 0xC3]; // 4 °C
-    /// assert_eq!(utf_ebcdic::item_start(&text, 3), Ok(2));
-    /// assert_eq!(utf_ebcdic::item_start(&text, 4), Ok(4));
+    /// let text = [0xF4, 0x8B, 0x90, 0xC3]; // the last byte of a euro sign is lost
+    /// let mark = Item { offset: 1, length: 2, content: Content::Mark(Fault::MissingTrailing) };
+    /// assert_eq!(utf_ebcdic::item_covering(&text, 2), Ok(mark));
     /// ```
-    item_start = jk_utf_ebcdic_item_start;
+    item_covering = jk_utf_ebcdic_item_covering;
 
     /// ```
     /// use jiskromet::{utf_ebcdic, Content};

@@ -149,7 +149,7 @@ type BothWays = (Vec<Item>, Vec<Item>);
 struct Reader<S> {
     decode_lossy: DecodeLossy<S>,
     item_at: fn(&[S], usize) -> Result<Option<Item>, Refusal>,
-    item_start: fn(&[S], usize) -> Result<usize, Refusal>,
+    item_covering: fn(&[S], usize) -> Result<Item, Refusal>,
     items: fn(&[S]) -> Result<BothWays, Refusal>,
     longest: usize,
 }
@@ -159,7 +159,7 @@ macro_rules! reader {
         Reader {
             decode_lossy: $form::decode_lossy,
             item_at: $form::item_at,
-            item_start: $form::item_start,
+            item_covering: $form::item_covering,
             items: |text| {
                 let items = $form::items(text)?;
                 let (least, most) = items.size_hint();
@@ -186,7 +186,7 @@ impl<S: Copy> Reader<S> {
             assert!(length <= self.longest);
             assert_eq!((self.item_at)(text, offset), Ok(Some(item)));
             for covered in item.range() {
-                assert_eq!((self.item_start)(text, covered), Ok(offset));
+                assert_eq!((self.item_covering)(text, covered), Ok(item));
             }
             items.push(item);
             offset += length;
@@ -195,7 +195,7 @@ impl<S: Copy> Reader<S> {
         assert_eq!((self.item_at)(text, offset), Ok(None));
         for beyond in [offset, offset + 1, usize::MAX] {
             assert_eq!(
-                (self.item_start)(text, beyond),
+                (self.item_covering)(text, beyond),
                 refused(Fault::OffsetOutOfRange, beyond)
             );
         }
@@ -272,7 +272,7 @@ impl<S: Copy> Reader<S> {
                 refused(Fault::SourceTooLong, 0)
             );
             assert_eq!(
-                (self.item_start)(&longer, offset),
+                (self.item_covering)(&longer, offset),
                 refused(Fault::SourceTooLong, 0)
             );
         }
@@ -346,7 +346,8 @@ fn fss_utf_reads() {
     );
     reader.reads(
         &[
-            0xE2, 0x89, 0x41, 0x80, 0xFE, 0xC0, 0x80, 0xFD, 0xBF, 0xBF, 0xBF, 0xBF, 0xBF,
+            0xE2, 0x89, 0x41, 0x80, 0xFE, 0xC0, 0x80, 0xED, 0xA0, 0x80, 0xFD, 0xBF, 0xBF, 0xBF,
+            0xBF, 0xBF, 0x80,
         ],
         &[
             mark(2, Fault::MissingTrailing),
@@ -354,7 +355,9 @@ fn fss_utf_reads() {
             mark(1, Fault::StrayTrailing),
             mark(1, Fault::InvalidUnit),
             mark(2, Fault::Overlong),
+            mark(3, Fault::Surrogate),
             character(6, 0x7FFF_FFFF),
+            mark(1, Fault::StrayTrailing),
         ],
     );
     reader.keeps_the_limits(0);
@@ -418,14 +421,17 @@ fn utf_ebcdic_reads() {
     );
     reader.reads(
         &[
-            0x9A, 0x80, 0xC1, 0x80, 0x42, 0x80, 0xE1, 0xFE, 0xFE, 0xFE, 0xFE, 0xFE, 0xFE,
+            0x9A, 0x80, 0xC1, 0x80, 0x42, 0x80, 0xB3, 0xDD, 0x80, 0x80, 0xE1, 0xFE, 0xFE, 0xFE,
+            0xFE, 0xFE, 0xFE, 0x80,
         ],
         &[
             mark(2, Fault::MissingTrailing),
             character(1, 0x41),
             mark(1, Fault::StrayTrailing),
             mark(2, Fault::Overlong),
+            mark(4, Fault::Surrogate),
             character(7, 0x7FFF_FFFF),
+            mark(1, Fault::StrayTrailing),
         ],
     );
     reader.keeps_the_limits(0);
