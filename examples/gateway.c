@@ -1,6 +1,7 @@
 /* A gateway's job: alarm lines in FSS-UTF come in, damaged ones among them; the maintenance host takes UTF-EBCDIC and the
- * display panel UTF-16. For each line this prints the bytes for the host and the units for the panel. Where one of them
- * refuses, it prints the fault with its place and, of a damaged line, what can still be shown.
+ * display panel a row of UTF-16. For each line this prints the bytes for the host and the units for the panel, cut where
+ * the row is full, but not within a character. Where one of them refuses, it prints the fault with its place and, of a
+ * damaged line, what can still be shown.
  *
  *     gcc -I include examples/gateway.c target/staticlib/libjiskromet.a -o gateway
  *     ./gateway < examples/alarms.txt
@@ -11,6 +12,9 @@
 
 /* One byte more than a conversion takes: a line too long is refused by fault 1. */
 enum { LONGEST_LINE = JK_MAX_UNITS + 1 };
+
+/* The units in a row of the panel. */
+enum { ROW = 40 };
 
 /* The number of cells of an array. */
 #define CELLS(array) (sizeof array / sizeof array[0])
@@ -29,6 +33,11 @@ static int read_line(size_t *length) {
     for (; c != EOF && c != '\n'; c = getchar())
         if (*length < LONGEST_LINE) line[(*length)++] = (uint8_t)c;
     return 1;
+}
+
+/* How many of the panel's units its row takes. A longer text is cut where the item at the cut starts: no pair is cut in two. */
+static uint64_t row(uint64_t units) {
+    return units <= ROW ? units : jk_utf16_item_covering(panel, units, ROW).offset;
 }
 
 static void print_fault(const char *who, jk_conversion answer) {
@@ -64,9 +73,10 @@ int main(void) {
 
         jk_conversion to_panel = jk_fss_utf_to_utf16(line, length, panel, CELLS(panel));
         if (to_panel.fault == JK_NO_FAULT) {
+            uint64_t shown = row(to_panel.units);
             printf("  panel:");
-            for (uint64_t i = 0; i < to_panel.units; i++) printf(" %04X", (unsigned)panel[i]);
-            printf("\n");
+            for (uint64_t i = 0; i < shown; i++) printf(" %04X", (unsigned)panel[i]);
+            puts(shown < to_panel.units ? " ..." : "");
         } else {
             print_fault("panel", to_panel);
         }
