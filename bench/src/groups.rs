@@ -5,7 +5,7 @@ use std::io::{self, Write};
 
 use crate::buffer::{Buffer, Place};
 use crate::iconv::{self, Iconv};
-use crate::library::{Linked, LinkedTo};
+use crate::library::{JkItem, Linked, LinkedTo};
 use crate::reference::{self, Content, Form, FssUtf, Reading, Ucs4, Utf16, UtfEbcdic, MARK_VALUE};
 use crate::text::{self, Class, Size};
 use crate::timing::{self, Effort};
@@ -35,7 +35,7 @@ pub struct Case {
 impl Case {
     /// Whether a call reads the whole text.
     fn reads_all(&self) -> bool {
-        !self.call.ends_with("_item_start")
+        !self.call.ends_with("_item_covering")
     }
 
     pub fn label(&self) -> String {
@@ -448,44 +448,55 @@ impl Run<'_> {
         self.finder::<UtfEbcdic>()
     }
 
-    /// The finder at the offsets from 10 on and at those from 65,000 on, of a
-    /// text that has the same units around both. A call is so short that one
-    /// alone would tell of the loop around it.
+    /// The finder in good texts, and among strays alone: if it sought a lead, it
+    /// would go back to the text's beginning.
     fn finder<F: Linked>(&mut self) -> Result<(), Stop> {
+        for struck in [false, true] {
+            for class in Class::ALL {
+                let case = Case {
+                    call: format!("{}_item_covering", id(F::NAME)),
+                    class,
+                    size: Size::Long,
+                    struck,
+                };
+                self.finding::<F>(case)?;
+            }
+        }
+        Ok(())
+    }
+
+    /// At the offsets from 10 on and at those from 65,000 on, of a text that has
+    /// the same units around both. A call is so short that one alone would tell
+    /// of the loop around it.
+    fn finding<F: Linked>(&mut self, case: Case) -> Result<(), Stop> {
         const NEAR: usize = 10;
         const DISTANT: usize = 65_000;
         const CALLS: usize = 8;
-        for class in Class::ALL {
-            let case = Case {
-                call: format!("{}_item_start", id(F::NAME)),
-                class,
-                size: Size::Long,
-                struck: false,
-            };
-            if !self.asked(&case) {
-                continue;
-            }
-            let mut units = text::longest_in::<F>(class);
-            units.copy_within(..2 * NEAR, DISTANT - NEAR);
-            let src = Buffer::text(&units);
-            let mut contestants = [(OURS, NEAR), (FAR, DISTANT)];
-            for (name, first) in contestants {
-                for offset in first..first + CALLS {
-                    let start = F::item_start(&src, offset);
-                    let expected = reference::item_start::<F>(&src, offset);
-                    if start.fault != 0 || expected != Ok(start.start as usize) {
-                        return Err(differs(&case, name));
-                    }
-                }
-            }
-            let bytes = size_of_val(&*src);
-            self.time(case, bytes, CALLS, &mut contestants, |(_, first)| {
-                for offset in *first..*first + CALLS {
-                    black_box(F::item_start(black_box(&src), black_box(offset)).start);
-                }
-            })?;
+        if !self.asked(&case) {
+            return Ok(());
         }
-        Ok(())
+        let mut units = text::longest_in::<F>(case.class);
+        // As far as an item at the last offset can reach.
+        units.copy_within(..NEAR + CALLS + F::LONGEST_ITEM, DISTANT - NEAR);
+        if case.struck {
+            units = text::strays::<F>(&units);
+        }
+        let src = Buffer::text(&units);
+        let mut contestants = [(OURS, NEAR), (FAR, DISTANT)];
+        for (name, first) in contestants {
+            for offset in first..first + CALLS {
+                let expected = reference::item_covering::<F>(&src, offset);
+                if F::item_covering(&src, offset) != JkItem::found(expected) {
+                    return Err(differs(&case, name));
+                }
+            }
+        }
+        let bytes = size_of_val(&*src);
+        self.time(case, bytes, CALLS, &mut contestants, |(_, first)| {
+            for offset in *first..*first + CALLS {
+                black_box(F::item_covering(black_box(&src), black_box(offset)));
+            }
+        })
     }
 }
 

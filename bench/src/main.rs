@@ -221,8 +221,8 @@ mod tests {
     #[test]
     fn a_closed_pipe_ends_the_run() {
         for words in [
-            "--check --only item_start",
-            "--quick --only ucs4_item_start",
+            "--check --only item_covering",
+            "--quick --only ucs4_item_covering",
         ] {
             let ended = run(&parse(words).unwrap(), &mut ClosedPipe);
             assert!(matches!(ended, Err(Stop::Output(_))), "{words}");

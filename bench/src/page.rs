@@ -122,7 +122,7 @@ pub fn words(call: &str) -> String {
         .split("_to_")
         .map(|form| {
             form.trim_end_matches("_decode_lossy")
-                .trim_end_matches("_item_start")
+                .trim_end_matches("_item_covering")
                 .to_uppercase()
                 .replace('_', "-")
                 .replace("UTF16", "UTF-16")
@@ -305,17 +305,18 @@ fn lossy(page: &mut String, results: &Results) {
 }
 
 fn finder(page: &mut String, results: &Results) {
-    page.push_str("## Item start: nanoseconds of a call\n\n");
+    page.push_str("## Item covering an offset: nanoseconds of a call\n\n");
+    let far = |figures: &Figures| Some(figures.ratio(FAR)? * figures.ours());
     let mut rows = Vec::new();
     for call in results.calls(Size::Long, |figures| figures.ratio(FAR).is_some()) {
-        let near = results.row(call, Size::Long, false, |figures| Some(figures.ours()));
-        let far = results.row(call, Size::Long, false, |figures| {
-            Some(figures.ratio(FAR)? * figures.ours())
-        });
-        rows.push(cells(&[&words(call), "10"], near));
-        rows.push(cells(&[&words(call), "65,000"], far));
+        for (struck, sort) in [(false, "good"), (true, "struck")] {
+            let near = results.row(call, Size::Long, struck, |figures| Some(figures.ours()));
+            rows.push(cells(&[&words(call), sort, "10"], near));
+            let far = results.row(call, Size::Long, struck, far);
+            rows.push(cells(&[&words(call), sort, "65,000"], far));
+        }
     }
-    table(page, &["form", "offset"], &rows);
+    table(page, &["form", "text", "offset"], &rows);
 }
 
 /// What the ratios are of.
@@ -375,7 +376,7 @@ fn library(page: &mut String, sizes: &Sizes, depths: &[(&'static str, usize)]) {
     row("a length", "_length");
     row("a lossy decoding", "_decode_lossy");
     row("an item at an offset", "_item_at");
-    row("an item start", "_item_start");
+    row("an item covering an offset", "_item_covering");
     let _ = write!(
         page,
         "## Sizes\n\n\
@@ -430,7 +431,7 @@ mod tests {
     fn calls_have_words() {
         assert_eq!(words("fss_utf_to_utf16_length"), "FSS-UTF to UTF-16");
         assert_eq!(words("utf_ebcdic_decode_lossy"), "UTF-EBCDIC");
-        assert_eq!(words("ucs4_item_start"), "UCS-4");
+        assert_eq!(words("ucs4_item_covering"), "UCS-4");
     }
 
     #[test]

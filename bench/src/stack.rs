@@ -34,10 +34,10 @@ macro_rules! exports {
 }
 
 exports! {
-    jk_fss_utf_item_at jk_fss_utf_item_start jk_fss_utf_decode_lossy
-    jk_utf_ebcdic_item_at jk_utf_ebcdic_item_start jk_utf_ebcdic_decode_lossy
-    jk_utf16_item_at jk_utf16_item_start jk_utf16_decode_lossy
-    jk_ucs4_item_at jk_ucs4_item_start jk_ucs4_decode_lossy
+    jk_fss_utf_item_at jk_fss_utf_item_covering jk_fss_utf_decode_lossy
+    jk_utf_ebcdic_item_at jk_utf_ebcdic_item_covering jk_utf_ebcdic_decode_lossy
+    jk_utf16_item_at jk_utf16_item_covering jk_utf16_decode_lossy
+    jk_ucs4_item_at jk_ucs4_item_covering jk_ucs4_decode_lossy
     jk_fss_utf_to_utf_ebcdic jk_fss_utf_to_utf_ebcdic_length
     jk_fss_utf_to_utf16 jk_fss_utf_to_utf16_length
     jk_fss_utf_to_ucs4 jk_fss_utf_to_ucs4_length

@@ -56,6 +56,12 @@ fn lossy(figures: &Figures, size: Size, struck: bool) -> Option<f64> {
         .filter(|_| case.call == "fss_utf_decode_lossy" && case.struck == struck)
 }
 
+/// The two times of a finder, whichever of them is the lesser.
+fn near_and_far(figures: &Figures, struck: bool) -> Option<f64> {
+    let ratio = figures.ratio(FAR)?;
+    (figures.case.struck == struck).then_some(ratio.min(1.0 / ratio))
+}
+
 /// Whether the figures are of ASCII text.
 fn ascii(figures: &Figures) -> bool {
     figures.case.class == Class::Ascii
@@ -131,9 +137,14 @@ pub const TARGETS: &[Target] = &[
         ratio: |figures| against(figures, CONVERTER, Size::Short),
     },
     Target {
-        what: "item start at offset 10 and at offset 65,000, the lesser time over the greater",
+        what: "item covering offset 10 and offset 65,000, good text, the lesser time over the greater",
         least: 0.9,
-        ratio: |figures| figures.ratio(FAR).map(|ratio| ratio.min(1.0 / ratio)),
+        ratio: |figures| near_and_far(figures, false),
+    },
+    Target {
+        what: "item covering offset 10 and offset 65,000, struck text, the lesser time over the greater",
+        least: 0.9,
+        ratio: |figures| near_and_far(figures, true),
     },
     Target {
         what: "lossy decoding of FSS-UTF against Rust std, 64 KiB, good text",
@@ -204,16 +215,21 @@ mod tests {
         assert!(TARGETS[2].worst(&all).is_none());
     }
 
+    /// By one target for good text and by one for struck text.
     #[test]
     fn a_finder_is_held_both_ways() {
-        let finder = TARGETS.iter().find(|target| target.least == 0.9).unwrap();
-        for far in [5.0, 20.0] {
-            let all = [figures(
-                "fss_utf_item_start",
+        for (struck, far) in [(false, 5.0), (false, 20.0), (true, 5.0), (true, 20.0)] {
+            let mut all = [figures(
+                "fss_utf_item_covering",
                 Class::Ascii,
                 &[(OURS, 10.0), (FAR, far)],
             )];
-            assert_eq!(finder.worst(&all).unwrap().ratio, 0.5);
+            all[0].case.struck = struck;
+            let worst: Vec<f64> = TARGETS
+                .iter()
+                .filter_map(|target| Some(target.worst(&all)?.ratio))
+                .collect();
+            assert_eq!(worst, [0.5]);
         }
     }
 }

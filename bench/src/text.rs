@@ -3,7 +3,7 @@
 use std::collections::VecDeque;
 
 use crate::random::Random;
-use crate::reference::{Form, FssUtf, Ucs4, Utf16, UtfEbcdic, LONGEST_TEXT};
+use crate::reference::{self, Form, FssUtf, Ucs4, Utf16, UtfEbcdic, LONGEST_TEXT};
 
 /// The most bytes of FSS-UTF that a short text has.
 pub const SHORT_TEXT: usize = 40;
@@ -147,6 +147,20 @@ pub fn strike<F: Form>(text: &[F::Unit]) -> Vec<F::Unit> {
     struck
 }
 
+/// A text of strays alone: the first unit of each item becomes a trailing one.
+/// UCS-4 has none; there it is a surrogate value.
+pub fn strays<F: Form>(text: &[F::Unit]) -> Vec<F::Unit> {
+    let stray = match size_of::<F::Unit>() {
+        1 => 0x80, // trailing in both byte forms
+        _ => 0xDC00,
+    };
+    let mut strays = text.to_vec();
+    for item in reference::items::<F>(text) {
+        strays[item.start] = F::unit(stray);
+    }
+    strays
+}
+
 const PLAIN: &[char] = &[
     'e', 't', 'a', 'o', 'i', 'n', 's', 'h', 'r', 'd', 'l', 'u', 'c', 'm', 'f', 'w', 'g', 'y', 'p',
     'b', 'v', 'k', 'x', 'j', 'q', 'z',
@@ -272,6 +286,7 @@ fn scalar(value: u32) -> char {
 #[cfg(test)]
 mod tests {
     use super::*;
+    use crate::reference::Content;
 
     fn string(class: Class, size: Size) -> String {
         characters(class, size).into_iter().map(scalar).collect()
@@ -388,6 +403,27 @@ mod tests {
         let short = encode::<FssUtf>(&characters(Class::Latin, Size::Short));
         let struck = strike::<FssUtf>(&short);
         assert_eq!(short.iter().zip(&struck).filter(|(a, b)| a != b).count(), 1);
+    }
+
+    /// Each unit is a mark of its own, as far as the text goes.
+    fn all_stray<F: Form>(class: Class) {
+        let text = strays::<F>(&longest_in::<F>(class));
+        assert_eq!(text.len(), LONGEST_TEXT);
+        let items = reference::items::<F>(&text);
+        assert_eq!(items.len(), LONGEST_TEXT, "{class:?}");
+        assert!(items
+            .iter()
+            .all(|item| matches!(item.content, Content::Mark(_))));
+    }
+
+    #[test]
+    fn strays_are_marks_only() {
+        for class in Class::ALL {
+            all_stray::<FssUtf>(class);
+            all_stray::<UtfEbcdic>(class);
+            all_stray::<Utf16>(class);
+            all_stray::<Ucs4>(class);
+        }
     }
 
     #[test]
