@@ -3,6 +3,7 @@
 pub mod acceptance;
 pub mod boundaries;
 pub mod conversion;
+pub mod covering;
 mod lent;
 pub mod limits;
 pub mod listing;
@@ -10,7 +11,6 @@ pub mod lossy;
 pub mod published;
 pub mod random_texts;
 mod reserved;
-pub mod start;
 pub mod units;
 pub mod walking;
 
@@ -47,7 +47,7 @@ pub fn mark(fault: u32, length: usize) -> Told {
 /// Holds a text's items as a paper tells them to the reference's items, to
 /// the library's answers from the first item on to the end, to the conversions
 /// of the text to the three other forms, to its mended reading, and to the
-/// starts found from each of its units.
+/// items found from each of its units.
 pub fn three_ways<F: ToOthers>(
     group: &mut Group,
     source: impl Display,
@@ -82,7 +82,7 @@ pub fn three_ways<F: ToOthers>(
     group.answer::<F>(&text, text.len(), end, &source);
     F::to_others(group, &source, &text, told);
     lossy::three_ways::<F>(group, &source, &text, told);
-    start::three_ways::<F>(group, &source, &text, told);
+    covering::three_ways::<F>(group, &source, &text, told);
 }
 
 /// `three_ways` for a text that is one character, together with the

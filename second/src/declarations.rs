@@ -651,7 +651,8 @@ mod tests {
         enum { JK_END = 0, JK_CHARACTER = 1 };
         typedef struct jk_item {
             uint32_t kind; // what it is
-            uint64_t length;
+            uint32_t fault, value;
+            uint64_t offset; uint64_t length;
         } jk_item;
         typedef struct jk_conversion { uint32_t fault; uint64_t offset, units; } jk_conversion;
         jk_item jk_fss_utf_item_at(const uint8_t *text, size_t len, size_t offset);
@@ -662,10 +663,9 @@ mod tests {
         typedef struct jk_decoding {
             uint32_t fault; uint64_t offset; uint64_t items; uint64_t marks;
         } jk_decoding;
-        typedef struct jk_start { uint32_t fault; uint64_t offset; uint64_t start; } jk_start;
         jk_decoding jk_utf16_decode_lossy(const uint16_t *text, size_t len,
             uint32_t *values, size_t values_len, uint32_t *starts, size_t starts_len);
-        jk_start jk_utf16_item_start(const uint16_t *text, size_t len, size_t offset);
+        jk_item jk_utf16_item_covering(const uint16_t *text, size_t len, size_t offset);
         static inline size_t jk_next(jk_item item) { return item.length; }
         #ifdef __cplusplus
         }
@@ -677,13 +677,11 @@ mod tests {
         use crate::reference::Form;
         #[repr(C)]
         #[derive(Clone, Copy)]
-        pub struct JkItem { pub kind: u32, pub length: u64 }
+        pub struct JkItem { pub kind: u32, pub fault: u32, pub value: u32, pub offset: u64, pub length: u64 }
         #[repr(C)]
         pub struct JkConversion { pub fault: u32, pub offset: u64, pub units: u64, }
         #[repr(C)]
         pub struct JkDecoding { pub fault: u32, pub offset: u64, pub items: u64, pub marks: u64 }
-        #[repr(C)]
-        pub struct JkStart { pub fault: u32, pub offset: u64, pub start: u64 }
         struct Other { x: i8 }
         extern "C" {
             fn jk_fss_utf_item_at(text: *const u8, len: usize, offset: usize) -> JkItem;
@@ -704,7 +702,7 @@ mod tests {
                 starts: *mut u32,
                 starts_len: usize,
             ) -> JkDecoding;
-            fn jk_utf16_item_start(text: *const u16, len: usize, offset: usize) -> JkStart;
+            fn jk_utf16_item_covering(text: *const u16, len: usize, offset: usize) -> JkItem;
         }
     "#;
 
@@ -713,15 +711,14 @@ mod tests {
         #[repr(C)]
         pub struct JkItem {
             pub kind: u32,
+            pub fault: u32, pub value: u32,
             /// Units.
-            pub length: u64,
+            pub offset: u64, pub length: u64,
         }
         #[repr(C)]
         pub struct JkConversion { pub fault: u32, pub offset: u64, pub units: u64 }
         #[repr(C)]
         pub struct JkDecoding { pub fault: u32, pub offset: u64, pub items: u64, pub marks: u64 }
-        #[repr(C)]
-        pub struct JkStart { pub fault: u32, pub offset: u64, pub start: u64 }
         #[no_mangle]
         pub extern "C" fn jk_fss_utf_item_at(text: &[u8], offset: usize) -> JkItem
             ensures { result == told(read(text@, offset)) }
@@ -754,7 +751,7 @@ mod tests {
             decode(text, values, starts)
         }
         #[no_mangle]
-        pub extern "C" fn jk_utf16_item_start(text: &[u16], offset: usize) -> JkStart {
+        pub extern "C" fn jk_utf16_item_covering(text: &[u16], offset: usize) -> JkItem {
             find(text, offset)
         }
     "#;
@@ -787,9 +784,13 @@ mod tests {
         for (from, to) in [
             ("offset: usize) -> JkItem", "offset: u32) -> JkItem"),
             ("*mut u32", "*const u32"),
-            ("-> JkStart", "-> JkItem"),
+            (
+                "u16, len: usize, offset: usize) -> JkItem",
+                "u16, len: usize, offset: usize) -> JkDecoding",
+            ),
             ("items: u64, pub marks", "marks: u64, pub items"),
-            ("fn jk_utf16_item_start", "fn jk_utf16_start"),
+            ("offset: u64, pub length", "length: u64, pub offset"),
+            ("fn jk_utf16_item_covering", "fn jk_utf16_covering"),
             ("#[repr(C)]", ""),
         ] {
             let seen = compared(HEADER, RUST, &RUST.replace(from, to), RATTLE);
@@ -851,16 +852,27 @@ mod tests {
                 "uint64_t marks; uint64_t items",
             ),
             header(
-                "jk_start jk_utf16_item_start",
-                "jk_item jk_utf16_item_start",
+                "jk_item jk_utf16_item_covering",
+                "jk_decoding jk_utf16_item_covering",
             ),
-            header("uint64_t start; }", "uint64_t begin; }"),
+            header("jk_utf16_item_covering", "jk_utf16_covering"),
+            header("uint64_t length;", "uint64_t size;"),
+            header("fault, value", "value, fault"),
+            header(
+                "uint64_t offset; uint64_t length",
+                "uint64_t length; uint64_t offset",
+            ),
             rust("len: usize, offset: usize", "len: usize"),
             rust("values: *mut u32", "values: *const u32"),
             rust("starts_len: usize", "starts_len: u32"),
             rust("items: u64, pub marks", "marks: u64, pub items"),
-            rust("-> JkStart", "-> JkItem"),
-            rust("kind: u32, pub length: u64", "length: u64, pub kind: u32"),
+            rust(
+                "u16, len: usize, offset: usize) -> JkItem",
+                "u16, len: usize, offset: usize) -> JkDecoding",
+            ),
+            rust("kind: u32, pub fault", "fault: u32, pub kind"),
+            rust("value: u32, pub offset: u64", "offset: u64, pub value: u32"),
+            rust("offset: u64, pub length", "length: u64, pub offset"),
             rust("*mut u32", "*const u32"),
             rust("*const u16", "*const u8"),
             rust("dst: *mut u8", "dst: *mut u16"),
@@ -870,8 +882,13 @@ mod tests {
             rattle("starts: &mut [u32]", "starts: &[u32]"),
             rattle("values: &mut [u32], starts", "starts: &mut [u32], values"),
             rattle("values: &mut [u32], ", ""),
-            rattle("offset: usize) -> JkStart", "offset: u64) -> JkStart"),
-            rattle("offset: u64, pub start", "start: u64, pub offset"),
+            rattle("offset: usize) -> JkItem {", "offset: u64) -> JkItem {"),
+            rattle(
+                "offset: usize) -> JkItem {",
+                "offset: usize) -> JkDecoding {",
+            ),
+            rattle("offset: u64, pub length", "length: u64, pub offset"),
+            rattle("fault: u32, pub value", "value: u32, pub fault"),
             rattle("&[u16]", "&[u8]"),
             rattle("dst: &mut [u8]", "dst: &mut [u16]"),
             rattle("src: &[u8], dst: &mut [u8]", "dst: &mut [u8], src: &[u8]"),

@@ -32,14 +32,6 @@ pub struct JkDecoding {
     pub marks: u64,
 }
 
-#[repr(C)]
-#[derive(Clone, Copy, Debug, PartialEq, Eq)]
-pub struct JkStart {
-    pub fault: u32,
-    pub offset: u64,
-    pub start: u64,
-}
-
 extern "C" {
     fn jk_fss_utf_item_at(text: *const u8, len: usize, offset: usize) -> JkItem;
     fn jk_utf_ebcdic_item_at(text: *const u8, len: usize, offset: usize) -> JkItem;
@@ -54,7 +46,7 @@ extern "C" {
         starts: *mut u32,
         starts_len: usize,
     ) -> JkDecoding;
-    fn jk_fss_utf_item_start(text: *const u8, len: usize, offset: usize) -> JkStart;
+    fn jk_fss_utf_item_covering(text: *const u8, len: usize, offset: usize) -> JkItem;
 
     fn jk_utf_ebcdic_decode_lossy(
         text: *const u8,
@@ -64,7 +56,7 @@ extern "C" {
         starts: *mut u32,
         starts_len: usize,
     ) -> JkDecoding;
-    fn jk_utf_ebcdic_item_start(text: *const u8, len: usize, offset: usize) -> JkStart;
+    fn jk_utf_ebcdic_item_covering(text: *const u8, len: usize, offset: usize) -> JkItem;
 
     fn jk_utf16_decode_lossy(
         text: *const u16,
@@ -74,7 +66,7 @@ extern "C" {
         starts: *mut u32,
         starts_len: usize,
     ) -> JkDecoding;
-    fn jk_utf16_item_start(text: *const u16, len: usize, offset: usize) -> JkStart;
+    fn jk_utf16_item_covering(text: *const u16, len: usize, offset: usize) -> JkItem;
 
     fn jk_ucs4_decode_lossy(
         text: *const u32,
@@ -84,7 +76,7 @@ extern "C" {
         starts: *mut u32,
         starts_len: usize,
     ) -> JkDecoding;
-    fn jk_ucs4_item_start(text: *const u32, len: usize, offset: usize) -> JkStart;
+    fn jk_ucs4_item_covering(text: *const u32, len: usize, offset: usize) -> JkItem;
 
     fn jk_fss_utf_to_utf_ebcdic(
         src: *const u8,
@@ -228,6 +220,16 @@ impl JkItem {
             },
         }
     }
+
+    /// The answer that the item found for a place, or a refusal, comes back as.
+    pub fn found(item: Result<Item, Refusal>) -> Self {
+        match item {
+            Ok(item) => JkItem::of(Reading::Item(item), item.start),
+            Err(Refusal { fault, offset }) => {
+                JkItem::of(Reading::Refusal { fault, offset }, offset)
+            }
+        }
+    }
 }
 
 impl JkConversion {
@@ -263,24 +265,6 @@ impl JkDecoding {
                 offset: offset as u64,
                 items: 0,
                 marks: 0,
-            },
-        }
-    }
-}
-
-impl JkStart {
-    /// The answer that a start, or a refusal, comes back as.
-    pub fn of(start: Result<usize, Refusal>) -> Self {
-        match start {
-            Ok(start) => JkStart {
-                fault: 0,
-                offset: 0,
-                start: start as u64,
-            },
-            Err(Refusal { fault, offset }) => JkStart {
-                fault,
-                offset: offset as u64,
-                start: 0,
             },
         }
     }
@@ -330,16 +314,16 @@ pub trait Linked: Form {
         }
     }
 
-    /// The start finder as C calls it.
+    /// The finder of the item that covers a place, as C calls it.
     ///
     /// # Safety
     ///
     /// `text` points to `len` units, or `len` is 0.
-    unsafe fn raw_item_start(text: *const Self::Unit, len: usize, offset: usize) -> JkStart;
+    unsafe fn raw_item_covering(text: *const Self::Unit, len: usize, offset: usize) -> JkItem;
 
-    fn item_start(text: &[Self::Unit], offset: usize) -> JkStart {
+    fn item_covering(text: &[Self::Unit], offset: usize) -> JkItem {
         // SAFETY: pointer and length are those of a slice.
-        unsafe { Self::raw_item_start(text.as_ptr(), text.len(), offset) }
+        unsafe { Self::raw_item_covering(text.as_ptr(), text.len(), offset) }
     }
 }
 
@@ -377,7 +361,7 @@ pub trait LinkedTo<G: Form>: Form {
 }
 
 macro_rules! link {
-    ($form:ty, $item_at:ident, $decode_lossy:ident, $item_start:ident) => {
+    ($form:ty, $item_at:ident, $decode_lossy:ident, $item_covering:ident) => {
         impl Linked for $form {
             unsafe fn raw_item_at(text: *const Self::Unit, len: usize, offset: usize) -> JkItem {
                 $item_at(text, len, offset)
@@ -394,12 +378,12 @@ macro_rules! link {
                 $decode_lossy(text, len, values, values_len, starts, starts_len)
             }
 
-            unsafe fn raw_item_start(
+            unsafe fn raw_item_covering(
                 text: *const Self::Unit,
                 len: usize,
                 offset: usize,
-            ) -> JkStart {
-                $item_start(text, len, offset)
+            ) -> JkItem {
+                $item_covering(text, len, offset)
             }
         }
     };
@@ -409,25 +393,25 @@ link!(
     FssUtf,
     jk_fss_utf_item_at,
     jk_fss_utf_decode_lossy,
-    jk_fss_utf_item_start
+    jk_fss_utf_item_covering
 );
 link!(
     UtfEbcdic,
     jk_utf_ebcdic_item_at,
     jk_utf_ebcdic_decode_lossy,
-    jk_utf_ebcdic_item_start
+    jk_utf_ebcdic_item_covering
 );
 link!(
     Utf16,
     jk_utf16_item_at,
     jk_utf16_decode_lossy,
-    jk_utf16_item_start
+    jk_utf16_item_covering
 );
 link!(
     Ucs4,
     jk_ucs4_item_at,
     jk_ucs4_decode_lossy,
-    jk_ucs4_item_start
+    jk_ucs4_item_covering
 );
 
 macro_rules! link_pair {

@@ -20,7 +20,7 @@ use std::path::PathBuf;
 use std::process::ExitCode;
 
 use checks::{
-    acceptance, boundaries, conversion, limits, listing, lossy, published, random_texts, start,
+    acceptance, boundaries, conversion, covering, limits, listing, lossy, published, random_texts,
     units, walking,
 };
 use report::Report;
@@ -81,9 +81,9 @@ fn main() -> ExitCode {
     report.run("mended reading's limits", lossy::limits::check);
     report.run("demand 3", lossy::parts::check);
     report.run("the tender's accident", lossy::accident::check);
-    report.run("starts of items", start::texts::check);
-    report.run("start locality", start::locality::check);
-    report.run("start limits", start::limits::check);
+    report.run("covering items", covering::texts::check);
+    report.run("covering locality", covering::locality::check);
+    report.run("covering limits", covering::limits::check);
     if let Some(program) = &arguments.listing {
         report.run("listing program", |group| listing::check(group, program));
     }

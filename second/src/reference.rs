@@ -4,14 +4,14 @@
 //! rule, so that it can be held against the paper line by line.
 
 mod conversion;
+mod covering;
 mod exchange;
 mod lossy;
-mod start;
 
 pub use conversion::{convert, most_units, written, Converted, Refusal};
+pub use covering::{item_covering, items_of_units};
 pub use exchange::{I8_TO_UTF_EBCDIC, UTF_EBCDIC_TO_I8};
 pub use lossy::{decode_lossy, given, Decoded, Mended, MARK_VALUE};
-pub use start::{item_start, starts_of_units};
 
 use std::fmt::Debug;
 use std::ops::Deref;

@@ -2,9 +2,7 @@
 
 use std::fmt::Display;
 
-use crate::library::{
-    JkConversion, JkDecoding, JkItem, JkStart, Linked, CHARACTER, END, MARK, REFUSAL,
-};
+use crate::library::{JkConversion, JkDecoding, JkItem, Linked, CHARACTER, END, MARK, REFUSAL};
 use crate::reference::{self, Form};
 
 /// How many failures of a group are printed in full.
@@ -178,14 +176,4 @@ pub fn told_decoding(decoding: JkDecoding) -> String {
         marks,
     } = decoding;
     format!("fault {fault}, offset {offset}, {items} items, {marks} marks")
-}
-
-/// A start finder's answer in words, with every field.
-pub fn told_start(start: JkStart) -> String {
-    let JkStart {
-        fault,
-        offset,
-        start,
-    } = start;
-    format!("fault {fault}, offset {offset}, start {start}")
 }

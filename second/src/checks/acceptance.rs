@@ -1,5 +1,5 @@
 //! What document 01 says of reading, point by point; each text is converted to
-//! the other forms, is read mended, and has its starts found as well.
+//! the other forms, is read mended, and has its items found as well.
 
 use super::conversion::ToOthers;
 use super::{character, each_form, from_i8, mark, one_character, one_value, three_ways};

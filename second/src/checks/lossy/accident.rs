@@ -2,9 +2,9 @@
 //! meet, and no other character of either may be spoiled.
 
 use super::{named, told_items};
-use crate::library::Linked;
+use crate::library::{JkItem, Linked, CHARACTER};
 use crate::reference::{FssUtf, Ucs4, Utf16, UtfEbcdic, MARK_VALUE};
-use crate::report::{told_decoding, told_start, Group};
+use crate::report::{told, told_decoding, Group};
 
 /// "Three bytes of an alarm text were lost."
 const LOST: usize = 3;
@@ -203,15 +203,24 @@ fn spared<F: Linked>(
         losses.joined += 1;
     }
 
+    // From each of its units a spared character is found whole.
     for item in before.iter().chain(after) {
-        for place in item.1..end(item) {
-            let came = F::item_start(text, place);
-            group.check(came.fault == 0 && came.start == item.1 as u64, || {
+        let &(value, start) = item;
+        let expected = JkItem {
+            kind: CHARACTER,
+            fault: 0,
+            value,
+            offset: start as u64,
+            length: (end(item) - start) as u64,
+        };
+        for place in start..end(item) {
+            let came = F::item_covering(text, place);
+            group.check(came == expected, || {
                 format!(
-                    "{}: the start from {place} is {}, not {}",
+                    "{}: from {place} came {}, not {}",
                     source(),
-                    told_start(came),
-                    item.1,
+                    told(came),
+                    told(expected),
                 )
             });
         }

@@ -6,10 +6,10 @@ use super::{answer, finds, refusal, three_ways};
 use crate::checks::each_form;
 use crate::checks::limits::{texts, FAR};
 use crate::checks::reserved::Reserved;
-use crate::library::{JkStart, Linked};
+use crate::library::{JkItem, Linked};
 use crate::random::{Drawn, Random};
-use crate::reference::{item_start, starts_of_units, FssUtf, UtfEbcdic, LONGEST_TEXT};
-use crate::report::{told_start, Group};
+use crate::reference::{item_covering, items_of_units, FssUtf, UtfEbcdic, LONGEST_TEXT};
+use crate::report::{told, Group};
 
 pub fn check(group: &mut Group) {
     each_form!(empty(group));
@@ -29,18 +29,18 @@ fn empty<F: Linked + Drawn>(group: &mut Group) {
     three_ways::<F>(group, "the empty text", &[], &[]);
     for offset in [0, 1, 2].into_iter().chain(FAR) {
         answer::<F>(group, "the empty text", &[], offset, refusal(9, offset));
-        let reference = JkStart::of(item_start::<F>(&[], offset));
+        let reference = JkItem::found(item_covering::<F>(&[], offset));
         group.check(reference == refusal(9, offset), || {
             format!("the empty text: the reference has {reference:?}")
         });
         for pointer in [ptr::null(), ptr::without_provenance(1), ptr::dangling()] {
             // SAFETY: the length is 0.
-            let came = unsafe { F::raw_item_start(pointer, 0, offset) };
+            let came = unsafe { F::raw_item_covering(pointer, 0, offset) };
             group.check(came == refusal(9, offset), || {
                 format!(
-                    "{}: start from {offset} of the empty text at {pointer:?}: came {}",
+                    "{}: the item from {offset} of the empty text at {pointer:?}: came {}",
                     F::NAME,
-                    told_start(came),
+                    told(came),
                 )
             });
         }
@@ -61,8 +61,8 @@ fn far_places<F: Linked + Drawn>(group: &mut Group) {
 fn longest<F: Linked + Drawn>(group: &mut Group) {
     for length in [LONGEST_TEXT - 1, LONGEST_TEXT] {
         for text in texts::<F>(length) {
-            let starts = starts_of_units::<F>(&text);
-            finds::<F>(group, "longest text", &text, &starts);
+            let covering = items_of_units::<F>(&text);
+            finds::<F>(group, "longest text", &text, &covering);
             for offset in FAR.into_iter().filter(|&offset| offset >= length) {
                 answer::<F>(group, "longest text", &text, offset, refusal(9, offset));
             }
@@ -85,7 +85,7 @@ fn too_long<F: Linked + Drawn>(group: &mut Group) {
             let ends = [length - 1, length, length + 1, length + 2];
             for offset in asked.into_iter().chain(ends).chain(FAR) {
                 answer::<F>(group, "text too long", &text, offset, refusal(1, 0));
-                let reference = JkStart::of(item_start::<F>(&text, offset));
+                let reference = JkItem::found(item_covering::<F>(&text, offset));
                 group.check(reference == refusal(1, 0), || {
                     format!("text too long: the reference has {reference:?}")
                 });
@@ -99,12 +99,12 @@ fn beyond_32_bits<F: Linked<Unit = u8>>(group: &mut Group, text: &Reserved<u8>) 
     let length = Reserved::<u8>::COUNT;
     for offset in [0, 1, 5, length - 1, length, usize::MAX] {
         // SAFETY: the pointer is to so many bytes.
-        let came = unsafe { F::raw_item_start(text.pointer, length, offset) };
+        let came = unsafe { F::raw_item_covering(text.pointer, length, offset) };
         group.check(came == refusal(1, 0), || {
             format!(
-                "{}: start from {offset} of {length} zero bytes: expected fault 1, came {}",
+                "{}: the item from {offset} of {length} zero bytes: expected fault 1, came {}",
                 F::NAME,
-                told_start(came)
+                told(came)
             )
         });
     }
