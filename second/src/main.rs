@@ -81,6 +81,7 @@ fn main() -> ExitCode {
     report.run("mended reading's limits", lossy::limits::check);
     report.run("demand 3", lossy::parts::check);
     report.run("the tender's accident", lossy::accident::check);
+    report.run("covering points", covering::points::check);
     report.run("covering items", covering::texts::check);
     report.run("covering locality", covering::locality::check);
     report.run("covering limits", covering::limits::check);

@@ -2,6 +2,7 @@
 
 pub mod limits;
 pub mod locality;
+pub mod points;
 pub mod texts;
 
 use std::fmt::Display;

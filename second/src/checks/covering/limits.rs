@@ -2,19 +2,22 @@
 
 use std::ptr;
 
-use super::{answer, finds, refusal, three_ways};
+use super::{answer, finds, longest_character, refusal, three_ways};
 use crate::checks::each_form;
 use crate::checks::limits::{texts, FAR};
 use crate::checks::reserved::Reserved;
 use crate::library::{JkItem, Linked};
 use crate::random::{Drawn, Random};
-use crate::reference::{item_covering, items_of_units, FssUtf, UtfEbcdic, LONGEST_TEXT};
+use crate::reference::{
+    item_covering, items_of_units, Content, FssUtf, Item, UtfEbcdic, LONGEST_TEXT,
+};
 use crate::report::{told, Group};
 
 pub fn check(group: &mut Group) {
     each_form!(empty(group));
     each_form!(far_places(group));
     each_form!(longest(group));
+    each_form!(last_item(group));
     each_form!(too_long(group));
     let Some(text) = Reserved::<u8>::reserve(group, "a text too long") else {
         return;
@@ -66,6 +69,42 @@ fn longest<F: Linked + Drawn>(group: &mut Group) {
             for offset in FAR.into_iter().filter(|&offset| offset >= length) {
                 answer::<F>(group, "longest text", &text, offset, refusal(9, offset));
             }
+        }
+    }
+}
+
+/// The longest item at the end of the longest text, whole and cut short to any
+/// number of units. One unit more than the text may have does not complete it.
+fn last_item<F: Linked + Drawn>(group: &mut Group) {
+    let single = F::encode(0x41).expect("every form holds it")[0];
+    let (value, legal) = longest_character::<F>();
+    for length in 1..=legal.len() {
+        let start = LONGEST_TEXT - length;
+        let mut text = vec![single; start];
+        text.extend_from_slice(&legal[..length]);
+        let item = JkItem::found(Ok(Item {
+            start,
+            length,
+            content: match length == legal.len() {
+                true => Content::Character(value),
+                false => Content::Mark(2),
+            },
+        }));
+        let before = JkItem::found(Ok(Item {
+            start: start - 1,
+            length: 1,
+            content: Content::Character(0x41),
+        }));
+        answer::<F>(group, "last item", &text, start - 1, before);
+        for offset in start..LONGEST_TEXT {
+            answer::<F>(group, "last item", &text, offset, item);
+        }
+        let end = refusal(9, LONGEST_TEXT);
+        answer::<F>(group, "last item", &text, LONGEST_TEXT, end);
+        text.extend(legal.get(length));
+        text.resize(LONGEST_TEXT + 1, single);
+        for offset in start - 1..=LONGEST_TEXT + 1 {
+            answer::<F>(group, "last item", &text, offset, refusal(1, 0));
         }
     }
 }
