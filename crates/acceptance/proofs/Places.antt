@@ -14,7 +14,7 @@ use Rattle.types.specs.declared.Found.{Found}
 use Rattle.types.specs.declared.Found.the-variants.{Covered, Refused}
 use Rattle.forms.specs.Fault.{limit}
 use Rattle.forms.specs.Form.{Form, spanOf, items}
-use Rattle.forms.specs.Finder.{endOf, covering, itemCovering}
+use Rattle.forms.specs.Finder.{covering, itemCovering}
 use Rattle.laws.specs.Finder.{nearest, Covers, SameNear, SameAhead, movedTo}
 use Rattle.laws.proofs.Finder.{found-over, found-inside}
 use Rattle.reader.specs.Step.{cursor, stepAt}

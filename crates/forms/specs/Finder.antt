@@ -7,7 +7,6 @@ use mathlib.Core.Option.{Option, none, some}
 use lib.ListN.{length}
 use lib.Dec.{ltb}
 use Rattle.types.specs.declared.Fault.the-variants.{SourceTooLong, OffsetOutOfRange}
-use Rattle.types.specs.declared.Span.{Span}
 use Rattle.types.specs.declared.Item.{Item}
 use Rattle.types.specs.declared.Found.{Found}
 use Rattle.types.specs.declared.Found.the-variants.{Covered, Refused}

@@ -13,11 +13,10 @@ use lib.ListN.{length, getD, take, drop}
 use lib.Seq.{drop-cons}
 use Rattle.types.specs.declared.Fault.the-variants.{SourceTooLong, OffsetOutOfRange}
 use Rattle.types.specs.declared.Refusal.{Refusal}
-use Rattle.types.specs.declared.Span.{Span}
 use Rattle.types.specs.declared.Item.{Item}
 use Rattle.types.specs.declared.Found.the-variants.{Covered, Refused}
 use Rattle.forms.specs.Fault.{limit, refusal}
-use Rattle.forms.specs.Form.{Sequence, sequence, size, Form, asked, taken, firstOf, sequences, Content, character, mark, content, span, withSpan, spanOf, itemOf, items}
+use Rattle.forms.specs.Form.{sequence, size, Form, asked, taken, firstOf, sequences, Content, character, mark, content, span, withSpan, spanOf, itemOf, items}
 use Rattle.forms.specs.Forms.{fssUtf, utfEbcdic, utf16, ucs4}
 use Rattle.forms.specs.Finder.{endOf, covering, orBeyond, itemCovering}
 use Rattle.laws.specs.Finder.{unitsBefore, nearest, Covers, SameNear, SameAhead, movedTo, Finds}

@@ -1,12 +1,12 @@
 -- How a text falls into sequences: before, at and after a border that no trailing unit crosses.
-use Prim.Native.Nat.{ℕ, zero, suc, _+_, _-_, _≤_, _<_}
-use mathlib.Core.Path.{_≡_, refl, sym, ap, _∙_}
+use Prim.Native.Nat.{ℕ, zero, suc, _+_, _≤_}
+use mathlib.Core.Path.{_≡_, refl, ap, _∙_}
 use mathlib.Core.Bool.{Bool, true, false, cond}
-use mathlib.Core.List.{List, [], _∷_, _++_, append-assoc}
+use mathlib.Core.List.{List, [], _∷_, _++_}
 use native.Mathlib.Omega.{arith}
 use native.Mathlib.Nat.{not-suc-le-zero, le-of-suc-le-suc}
-use lib.ListN.{length, drop, take, length-append}
-use Rattle.forms.specs.Form.{Role, lead, trailing, invalid, Sequence, sequence, units, size, Form, asked, isTrailing, taken, firstOf, sequencesAfter, sequences}
+use lib.ListN.{length, drop, take}
+use Rattle.forms.specs.Form.{Role, lead, trailing, invalid, Sequence, sequence, units, Form, asked, isTrailing, taken, firstOf, sequencesAfter, sequences}
 use Rattle.laws.specs.LayoutTable.{AllTrailing, Full}
 
 pub same-units : (a b : Sequence) → units a ≡ units b → a ≡ b

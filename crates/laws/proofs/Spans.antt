@@ -1,11 +1,11 @@
 -- Where an item stands and how long it is: at least one unit, at most the longest item, within the text.
-use Prim.Native.Nat.{ℕ, zero, suc, _+_, _-_, _≤_, _<_}
+use Prim.Native.Nat.{ℕ, suc, _≤_, _<_}
 use mathlib.Core.Path.{_≡_, refl}
-use mathlib.Core.List.{List, [], _∷_}
+use mathlib.Core.List.{List}
 use native.Mathlib.Omega.{arith}
-use lib.ListN.{length, drop, length-drop}
+use lib.ListN.{length}
 use Rattle.types.specs.declared.Span.{Span}
-use Rattle.forms.specs.Form.{Role, lead, trailing, invalid, Sequence, size, Form, asked, taken, firstOf, Content, character, mark, content, span, withSpan, spanOf, itemOf}
+use Rattle.forms.specs.Form.{Role, lead, trailing, invalid, Sequence, size, Form, asked, firstOf, Content, character, mark, content, span, withSpan, spanOf, itemOf}
 use Rattle.laws.proofs.Sequences.{taken-length, taken-most}
 use Rattle.laws.proofs.FormLaws.{Laws}
 

@@ -5,8 +5,8 @@ use mathlib.Core.Bool.{false}
 use mathlib.Core.List.{List, [], _∷_}
 use native.Mathlib.Omega.{arith}
 use borrow.Author.Tests.{le-leb}
-use lib.ListN.{length, getD, take}
-use Rattle.forms.specs.Form.{Role, lead, trailing, invalid, Form, isTrailing}
+use lib.ListN.{getD, take}
+use Rattle.forms.specs.Form.{Role, lead, trailing, invalid, isTrailing}
 use Rattle.forms.specs.Layout.{roleOf}
 use Rattle.forms.specs.Forms.{utf16Layout, utf16, ucs4}
 use Rattle.laws.proofs.Digits.{IsDigit}
