@@ -16,7 +16,7 @@ use Rattle.forms.specs.Fault.{limit}
 use Rattle.forms.specs.Form.{Form, spanOf, items}
 use Rattle.forms.specs.Finder.{covering, itemCovering}
 use Rattle.laws.specs.Finder.{nearest, Covers, SameNear, SameAhead, movedTo}
-use Rattle.laws.proofs.Finder.{found-over, found-inside}
+use Rattle.laws.proofs.Finder.{found-over, found-inside, start-inside}
 use Rattle.reader.specs.Step.{cursor, stepAt}
 use Rattle.c_answers.specs.declared.JkItem.{JkItem}
 use Rattle.c_answers.specs.Answer.{jkItem, shownItem, itemAnswer, foundAnswer}
@@ -155,18 +155,12 @@ module _ (F : Form) (known : Known F) where
         }
 
     -- it is the item read at its start
-    start-inside : (spanOf (w .item)) .offset < length s
-    start-inside = go (decLt q (length s))
-      where
-        go : Dec (q < length s) → (spanOf (w .item)) .offset < length s
-        go (yes h) = omega (arith, covers .from)
-        go (no h) = absurd (let z : _≡_ {A = ℕ} 0 1 = cc (w .named, known .finds .beyond s q .1 (omega arith)) in omega arith)
-
     read-there : (b : JkItem) → b ≡ itemAnswer (stepAt F s (cursor (r .offset))) → b ≡ r
     read-there b d =
         let a = (spanOf (w .item)) .offset in
-        let c = drop-cons s a 0 start-inside in
-        shows F known s a b (d ∙ ap (λ (x : ℕ). itemAnswer (stepAt F s (cursor x))) offset-is) (w .short) (omega (arith, start-inside)) (getD s a 0 ∷ drop (suc a) s) c
+        let i = start-inside F (known .laws) (known .positive) s q (w .item) (w .named) in
+        let c = drop-cons s a 0 i in
+        shows F known s a b (d ∙ ap (λ (x : ℕ). itemAnswer (stepAt F s (cursor x))) offset-is) (w .short) (omega arith) (getD s a 0 ∷ drop (suc a) s) c
         ∙ ap shownItem (sym (known .finds .read s q (w .item) (w .named) (getD s a 0) (drop (suc a) s) c))
         ∙ sym (w .shown)
 

@@ -33,6 +33,7 @@ stepKind (Next i c) = itemKind i
 stepKind (End c) = 0
 stepKind (Refused r) = 3
 
+-- a finder never says End
 abbrev pub foundKind : Found → ℕ
 foundKind (Covered i) = itemKind i
 foundKind (NotFound r) = 3

@@ -139,7 +139,7 @@ module _ (F : Form) (laws : Laws F) (positive : 0 < F .longest) where
     is-covered : Covers (items F s) p i
     is-covered = rw same at (at .covers)
 
-    start-inside : (spanOf i) .offset < length s
+    pub start-inside : (spanOf i) .offset < length s
     start-inside = omega (arith, is-covered .from, is-inside s p i e)
 
     back-is : p - (spanOf i) .offset ≡ distanceBack F 0 (unitsBefore (suc p) s)
