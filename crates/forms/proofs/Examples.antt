@@ -8,7 +8,7 @@ use native.Mathlib.Omega.{arith}
 use borrow.Author.Tests.{lt-ltb, le-ltb}
 use lib.ListN.{length, drop}
 use Rattle.types.specs.declared.Fault.{Fault}
-use Rattle.types.specs.declared.Fault.the-variants.{SourceTooLong, MissingTrailing, StrayTrailing, InvalidUnit, Overlong, Unrepresentable, BufferTooShort, OffsetOutOfRange, Surrogate}
+use Rattle.types.specs.declared.Fault.the-variants.{SourceTooLong, MissingTrailing, StrayTrailing, InvalidUnit, Overlong, Unrepresentable, BufferTooShort, OffsetOutOfRange, Surrogate, NonCharacter}
 use Rattle.types.specs.declared.Item.{Item}
 use Rattle.types.specs.declared.Item.the-variants.{Character, Mark}
 use Rattle.types.specs.declared.Conversion.{Conversion}
@@ -18,14 +18,14 @@ use Rattle.forms.specs.Fault.{limit, refusal}
 use Rattle.forms.specs.Answer.{numbers, conversionNumbers, decodingNumbers, itemValues, itemNumbers, foundNumbers}
 use Rattle.forms.specs.Form.{units, Form, sequences, span, spanOf, items, encode, encodeAll, AllEncodable, WellFormed, OccursAt}
 use Rattle.forms.specs.Exchange.{ebcdicOf}
-use Rattle.forms.specs.Forms.{fssUtf, i8, utfEbcdic, utf16, ucs4}
+use Rattle.forms.specs.Forms.{fssUtf, i8, utfEbcdic, utf16, ucs4, turnedAway, strictly}
 use Rattle.forms.specs.Flags.{flagOf}
 use Rattle.types.specs.declared.Decoding.the-variants as Decoding
 use Rattle.types.specs.declared.Decoding.the-variants.{Decoded}
 use Rattle.forms.specs.Lossy as Lossy
 use Rattle.forms.specs.Lossy.{lossy, counts, valuesIn, startsIn}
 use Rattle.forms.specs.Buffer.{withUnits, Holds}
-use Rattle.forms.specs.Conversion.{refused, refusalAt, convertItems, outcome, strict, answerOf, cellsOf, Measures, Converts}
+use Rattle.forms.specs.Conversion.{refused, unheldBy, refusalAt, convertItems, outcome, strict, answerOf, cellsOf, Measures, Converts}
 use Rattle.forms.specs.Finder.{endOf, covering, orBeyond, itemCovering, numbersAt, FindsItem}
 
 pub data Example : Type 0 where
@@ -121,7 +121,7 @@ unitEncodings =
 pub unit-encodings-hold : map actual unitEncodings ≡ map expected unitEncodings
 unit-encodings-hold = refl
 
--- "FEFF is a character like another. FFFE and FFFF are carried."
+-- "FEFF is a character like another." FFFE and FFFF have their encodings too, and are read
 abbrev pub carriedValues : List Example
 carriedValues =
     encodes fssUtf 0xFEFF (0xEF ∷ 0xBB ∷ 0xBF ∷ []) ∷
@@ -197,8 +197,54 @@ short-promise = record { answer = refl; numbers = refl; cells = refl }
 pub unheld-promise : Converts fssUtf utf16 (0x41 ∷ 0xF4 ∷ 0x90 ∷ 0x80 ∷ 0x80 ∷ []) (7 ∷ []) (Refused (refusal Unrepresentable 1)) (7 ∷ [])
 unheld-promise = record { answer = refl; numbers = refl; cells = refl }
 
-pub unheld-place : refusalAt (Character 0x110000 (span 5 4)) ≡ refusal Unrepresentable 5
-unheld-place = refl
+-- its refusal: by what the target excludes, and by 6 where that is nothing
+pub unheld-places :
+    map (refusalAt (strictly utf16 .excluded)) (Character 0x110000 (span 5 4) ∷ Character 0xFFFF (span 5 3) ∷ Mark Overlong (span 5 2) ∷ [])
+    ≡ refusal Unrepresentable 5 ∷ refusal NonCharacter 5 ∷ refusal Overlong 5 ∷ []
+unheld-places = refl
+
+pub unheld-faults : map unheldBy (none ∷ some Surrogate ∷ []) ≡ Unrepresentable ∷ Surrogate ∷ []
+unheld-faults = refl
+
+-- request 110: FFFE and FFFF are refused, from every form and to every form; not their neighbours, and no other value that ends like them
+pub turned-away :
+    map turnedAway (0xFEFF ∷ 0xFFFD ∷ 0xFFFE ∷ 0xFFFF ∷ 0x10000 ∷ 0x1FFFE ∷ 0x1FFFF ∷ [])
+    ≡ none ∷ none ∷ some NonCharacter ∷ some NonCharacter ∷ none ∷ none ∷ none ∷ []
+turned-away = refl
+
+-- as a target the form keeps its units and its other exclusions
+pub strict-target : map (encode (strictly utf16)) (0xFFFD ∷ 0xFFFE ∷ 0xFFFF ∷ 0x1FFFE ∷ []) ≡ (0xFFFD ∷ []) ∷ [] ∷ [] ∷ (0xD83F ∷ 0xDFFE ∷ []) ∷ []
+strict-target = refl
+
+pub strict-faults :
+    map (strictly utf16 .excluded) (0xD800 ∷ 0xFFFE ∷ 0x110000 ∷ []) ≡ some Surrogate ∷ some NonCharacter ∷ some Unrepresentable ∷ []
+strict-faults = refl
+
+pub strict-readings : (items (strictly utf16) (0xDC00 ∷ 0xFFFF ∷ []) ≡ Mark StrayTrailing (span 0 1) ∷ Mark NonCharacter (span 1 1) ∷ []) × (strictly utf16 .longest ≡ 2)
+strict-readings = (refl, refl)
+
+pub refused-length : Measures fssUtf utf16 (0x41 ∷ 0xEF ∷ 0xBF ∷ 0xBF ∷ []) (Refused (refusal NonCharacter 1))
+refused-length = record { answer = refl; numbers = refl }
+
+abbrev pub refusedValues : List Example
+refusedValues =
+    converts fssUtf utf16 (0xEF ∷ 0xBF ∷ 0xBF ∷ []) (7 ∷ []) (Refused (refusal NonCharacter 0)) (7 ∷ []) ∷
+    converts fssUtf ucs4 (0x41 ∷ 0xEF ∷ 0xBF ∷ 0xBE ∷ []) [] (Refused (refusal NonCharacter 1)) [] ∷
+    converts fssUtf utf16 (0xEF ∷ 0xBF ∷ 0xBD ∷ 0xEF ∷ 0xBB ∷ 0xBF ∷ []) (7 ∷ 7 ∷ []) (Units 2) (0xFFFD ∷ 0xFEFF ∷ []) ∷
+    converts fssUtf utf16 (0xF0 ∷ 0x9F ∷ 0xBF ∷ 0xBE ∷ []) (7 ∷ 7 ∷ []) (Units 2) (0xD83F ∷ 0xDFFE ∷ []) ∷
+    converts fssUtf utf16 (0xED ∷ 0xA0 ∷ 0x80 ∷ 0xEF ∷ 0xBF ∷ 0xBF ∷ []) [] (Refused (refusal Surrogate 0)) [] ∷
+    converts fssUtf utf16 (0xEF ∷ 0xBF ∷ 0xBF ∷ 0xED ∷ 0xA0 ∷ 0x80 ∷ []) [] (Refused (refusal NonCharacter 0)) [] ∷
+    converts fssUtf utf16 (0xF0 ∷ 0x8F ∷ 0xBF ∷ 0xBF ∷ []) [] (Refused (refusal Overlong 0)) [] ∷
+    converts utfEbcdic fssUtf (0xC1 ∷ 0xB3 ∷ 0xFE ∷ 0xFE ∷ 0xFE ∷ []) (7 ∷ 7 ∷ []) (Refused (refusal NonCharacter 1)) (7 ∷ 7 ∷ []) ∷
+    converts utfEbcdic utf16 (0xFB ∷ 0xFE ∷ 0xFE ∷ []) (7 ∷ []) (Units 1) (0x3FFF ∷ []) ∷
+    converts utf16 utfEbcdic (0x41 ∷ 0xFFFE ∷ []) [] (Refused (refusal NonCharacter 1)) [] ∷
+    converts ucs4 utf16 (0x110000 ∷ 0xFFFF ∷ []) [] (Refused (refusal Unrepresentable 0)) [] ∷
+    converts ucs4 utf16 (0xFFFF ∷ 0x110000 ∷ []) [] (Refused (refusal NonCharacter 0)) [] ∷
+    reads fssUtf (0xEF ∷ 0xBF ∷ 0xBE ∷ 0xEF ∷ 0xBF ∷ 0xBF ∷ []) (Character 0xFFFE (span 0 3) ∷ Character 0xFFFF (span 3 3) ∷ []) ∷
+    []
+
+pub refused-values-hold : map actual refusedValues ≡ map expected refusedValues
+refused-values-hold = refl
 
 -- units put into a buffer, and a buffer that holds some at its front
 pub put-in : withUnits (1 ∷ 2 ∷ 3 ∷ 4 ∷ []) 1 (7 ∷ 8 ∷ []) ≡ 1 ∷ 7 ∷ 8 ∷ 4 ∷ []
@@ -225,7 +271,7 @@ held-settled d e o p m n a b =
     (q, a .cells ∙ (ap (λ (k : ℕ). e ++ drop k d) q ∙ sym (b .cells)))
 
 -- "A source of 65,536 units is taken, 65,537 gives 1", before the fault of any unit
-pub at-the-limit : (F G : Form) (s : List ℕ) → length s ≤ 65536 → outcome F G s ≡ convertItems G (items F s)
+pub at-the-limit : (F G : Form) (s : List ℕ) → length s ≤ 65536 → outcome F G s ≡ convertItems (strictly G) (items F s)
 at-the-limit F G s h = rw (le-ltb limit (length s) h)
 
 pub above-the-limit : (F G : Form) (s : List ℕ) → 65537 ≤ length s → outcome F G s ≡ refused (refusal SourceTooLong 0)
@@ -290,6 +336,9 @@ decoded-short = refl
 
 pub decoded-values : valuesIn (lossy fssUtf cut 5 5) (1 ∷ 2 ∷ 3 ∷ 4 ∷ 5 ∷ []) ≡ 0x41 ∷ 0xFFFFFFFF ∷ 0x42 ∷ 4 ∷ 5 ∷ []
 decoded-values = refl
+
+pub decoded-non-characters : valuesIn (lossy fssUtf (0xEF ∷ 0xBF ∷ 0xBE ∷ 0xEF ∷ 0xBF ∷ 0xBF ∷ []) 2 2) (1 ∷ 2 ∷ []) ≡ 0xFFFE ∷ 0xFFFF ∷ []
+decoded-non-characters = refl
 
 pub decoded-starts : startsIn (lossy fssUtf cut 5 5) (1 ∷ 2 ∷ 3 ∷ 4 ∷ 5 ∷ []) ≡ 0 ∷ 1 ∷ 3 ∷ 4 ∷ 5 ∷ []
 decoded-starts = refl

@@ -1,10 +1,12 @@
--- Strict conversion of a text to another form: document 01, "Fault numbers".
+-- Strict conversion of a text to another form: document 01, "Fault numbers", and request 110.
 use Prim.Native.Nat.{ℕ}
 use mathlib.Core.Path.{_≡_}
 use mathlib.Core.Bool.{cond}
 use mathlib.Core.List.{List, [], _∷_, _++_}
+use mathlib.Core.Option.{Option, none, some}
 use lib.ListN.{length, drop}
 use lib.Dec.{ltb}
+use Rattle.types.specs.declared.Fault.{Fault}
 use Rattle.types.specs.declared.Fault.the-variants.{SourceTooLong, Unrepresentable, BufferTooShort}
 use Rattle.types.specs.declared.Item.{Item}
 use Rattle.types.specs.declared.Item.the-variants.{Character, Mark}
@@ -14,6 +16,7 @@ use Rattle.types.specs.declared.Conversion.the-variants.{Units, Refused}
 use Rattle.forms.specs.Fault.{limit, refusal}
 use Rattle.forms.specs.Answer.{Numbers, returned, refusedBy, conversionNumbers}
 use Rattle.forms.specs.Form.{Form, items, encode}
+use Rattle.forms.specs.Forms.{strictly}
 
 -- the units of the result, or the refusal
 pub data Outcome : Type 0 where
@@ -25,10 +28,15 @@ abbrev pub encoding : Form → Item → List ℕ
 encoding G (Character v p) = encode G v
 encoding G (Mark f p) = []
 
--- the refusal where it becomes none: a mark's fault; 6 for a character that the target cannot hold
-abbrev pub refusalAt : Item → Refusal
-refusalAt (Character v p) = refusal Unrepresentable (p .offset)
-refusalAt (Mark f p) = refusal f (p .offset)
+-- the fault of a character that has no encoding: the one that excludes it, and else 6
+abbrev pub unheldBy : Option Fault → Fault
+unheldBy none = Unrepresentable
+unheldBy (some f) = f
+
+-- the refusal where it becomes none: a mark's fault; a character's by what the target excludes
+abbrev pub refusalAt : (ℕ → Option Fault) → Item → Refusal
+refusalAt x (Character v p) = refusal (unheldBy (x v)) (p .offset)
+refusalAt x (Mark f p) = refusal f (p .offset)
 
 abbrev pub prepend : List ℕ → Outcome → Outcome
 prepend e (converted es) = converted (e ++ es)
@@ -41,11 +49,11 @@ put (u ∷ e) r rest = prepend (u ∷ e) rest
 -- the items in turn: the lowest place at which a fault applies decides
 abbrev pub convertItems : Form → List Item → Outcome
 convertItems G [] = converted []
-convertItems G (i ∷ is) = put (encoding G i) (refusalAt i) (convertItems G is)
+convertItems G (i ∷ is) = put (encoding G i) (refusalAt (G .excluded) i) (convertItems G is)
 
--- what the measure goes by: fault 1, then the faults of the items
+-- what the measure goes by: fault 1, then the faults of the items, 12 among them
 abbrev pub outcome : Form → Form → List ℕ → Outcome
-outcome F G s = cond (ltb limit (length s)) (refused (refusal SourceTooLong 0)) (convertItems G (items F s))
+outcome F G s = cond (ltb limit (length s)) (refused (refusal SourceTooLong 0)) (convertItems (strictly G) (items F s))
 
 -- then fault 7, where the result buffer has fewer cells than the result has units
 abbrev pub inRoom : ℕ → Outcome → Outcome

@@ -6,7 +6,7 @@ use mathlib.Core.Option.{Option, none, some}
 use lib.ListN.{take}
 use lib.Dec.{ltb}
 use Rattle.types.specs.declared.Fault.{Fault}
-use Rattle.types.specs.declared.Fault.the-variants.{Unrepresentable, Surrogate}
+use Rattle.types.specs.declared.Fault.the-variants.{Unrepresentable, Surrogate, NonCharacter}
 use Rattle.forms.specs.Form.{Form}
 use Rattle.forms.specs.Layout.{Row, row, Layout, within, formOf, exchanged}
 use Rattle.forms.specs.Exchange.{i8Of, ebcdicOf}
@@ -62,3 +62,25 @@ utf16 = formOf utf16Layout
 
 abbrev pub ucs4 : Form
 ucs4 = formOf ucs4Layout
+
+-- a form with further values excluded: the same code units, fewer values
+abbrev pub narrowed : (ℕ → Option Fault) → Form → Form
+narrowed x F =
+    record {
+      role = F .role;
+      value = F .value;
+      shortest = F .shortest;
+      excluded = λ v. orElse (F .excluded v) (x v);
+      longest = F .longest;
+    }
+
+abbrev pub isNonCharacter : ℕ → Bool
+isNonCharacter v = within 0xFFFE 0xFFFF v
+
+-- request 110, "FFFE and FFFF turned away": what strict conversion refuses besides, from every form and to every form
+abbrev pub turnedAway : ℕ → Option Fault
+turnedAway v = cond (isNonCharacter v) (some NonCharacter) none
+
+-- a form as the target of strict conversion
+abbrev pub strictly : Form → Form
+strictly G = narrowed turnedAway G
