@@ -1,17 +1,17 @@
 -- What a caller may conclude from an answer.
 use Prim.Native.Nat.{ℕ, _≤_, _<_}
 use mathlib.Core.Path.{_≡_, refl, sym, ap, _∙_}
-use mathlib.Core.List.{List, [], _∷_, _++_}
+use mathlib.Core.List.{List}
 use native.Mathlib.Omega.{arith}
 use native.Mathlib.Decide.{decLt}
 use borrow.Author.Tests.{le-ltb, lt-ltb}
 use lib.ListN.{length, take, drop}
 use lib.Seq.{take-at}
 use Rattle.types.specs.declared.Refusal.{Refusal}
-use Rattle.types.specs.declared.Conversion.{Conversion}
 use Rattle.types.specs.declared.Conversion.the-variants.{Units, Refused}
 use Rattle.forms.specs.Fault.{limit}
 use Rattle.forms.specs.Form.{Form, items}
+use Rattle.forms.specs.Forms.{strictly}
 use Rattle.forms.specs.Conversion.{Outcome, converted, refused, convertItems, outcome, inRoom, strict, answerOf, cellsOf, Converts}
 use Rattle.laws.proofs.Progress.{within-limit}
 
@@ -37,7 +37,7 @@ in-room n (converted fs) es e = go (decLt n (length fs))
         (q, rw w at l)
 
 module _ (F G : Form) (s : List ℕ) where
-  pub within-items : (es : List ℕ) → outcome F G s ≡ converted es → convertItems G (items F s) ≡ converted es
+  pub within-items : (es : List ℕ) → outcome F G s ≡ converted es → convertItems (strictly G) (items F s) ≡ converted es
   within-items es e = let h = within-limit F G s es e in rw (le-ltb limit (length s) h) at e
 
   -- a converter that answers units was given a text with that result, which stands at the front of its buffer

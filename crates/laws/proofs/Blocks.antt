@@ -1,7 +1,7 @@
 -- Blocks of units: what a loop over one gathers, and a local array that holds one.
 use Prim.Native.Nat.{ℕ, _+_, _-_, _≤_, _<_}
 use mathlib.Core.Path.{_≡_, refl, _∙_, subst}
-use mathlib.Core.Bool.{false}
+use mathlib.Core.Bool.{Bool, false}
 use mathlib.Core.List.{List}
 use native.Mathlib.Omega.{arith}
 use native.Mathlib.Nat.{le-trans}
@@ -10,7 +10,7 @@ use borrow.Author.Count.{below-more}
 use lib.Bits.{bitOr, or-add-and, and-le-l, and-le-r}
 use lib.ListN.{length, getD, set, length-set}
 use lib.Seq.{getD-set-same, getD-set-other, paste}
-use Rattle.forms.specs.Forms.{isSurrogate}
+use Rattle.forms.specs.Forms.{isSurrogate, isNonCharacter}
 use Rattle.laws.proofs.Rows.{within-below}
 use Rattle.laws.proofs.Buffers.{copy-begin, copy-more}
 
@@ -45,12 +45,23 @@ pub record AtMost (s : List ℕ) (at n m : ℕ) : Type 0 where
 pub record AtLeast (s : List ℕ) (at n m : ℕ) : Type 0 where
   pub each : (k : ℕ) → k < n → m ≤ getD s (at + k) 0
 
--- none of them is a surrogate
-pub record NoSurrogates (s : List ℕ) (at n : ℕ) : Type 0 where
-  pub each : (k : ℕ) → k < n → isSurrogate (getD s (at + k) 0) ≡ false
+-- none of them passes a test
+pub record NoneOf (test : ℕ → Bool) (s : List ℕ) (at n : ℕ) : Type 0 where
+  pub each : (k : ℕ) → k < n → test (getD s (at + k) 0) ≡ false
+
+-- none is a surrogate
+abbrev pub NoSurrogates : List ℕ → ℕ → ℕ → Type 0
+NoSurrogates s at n = NoneOf isSurrogate s at n
+
+-- none is FFFE or FFFF
+abbrev pub NoNonCharacters : List ℕ → ℕ → ℕ → Type 0
+NoNonCharacters s at n = NoneOf isNonCharacter s at n
 
 pub no-surrogates : {s : List ℕ} {at n m : ℕ} → AtMost s at n m → m < 0xD800 → NoSurrogates s at n
 no-surrogates {s} {at} a h = record { each = λ k i. within-below 0xD800 0xDFFF (getD s (at + k) 0) (omega (arith, a .each k i)) }
+
+pub no-non-characters : {s : List ℕ} {at n m : ℕ} → AtMost s at n m → m < 0xFFFE → NoNonCharacters s at n
+no-non-characters {s} {at} a h = record { each = λ k i. within-below 0xFFFE 0xFFFF (getD s (at + k) 0) (omega (arith, a .each k i)) }
 
 or-left : (a b : ℕ) → a ≤ bitOr a b
 or-left a b = omega (arith, or-add-and a b, and-le-r a b)

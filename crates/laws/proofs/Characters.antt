@@ -12,13 +12,15 @@ use lib.ListN.{length, length-append}
 use Rattle.types.specs.declared.Fault.{Fault}
 use Rattle.types.specs.declared.Item.{Item}
 use Rattle.types.specs.declared.Item.the-variants.{Character}
-use Rattle.types.specs.declared.Refusal.{Refusal}
 use Rattle.forms.specs.Form.{Role, lead, trailing, invalid, Sequence, sequence, units, size, Form, asked, firstOf, sequencesAfter, sequences, Content, character, mark, fullContent, contentAs, content, span, withSpan, itemOf, itemsFrom, items, encode, encodeAll, AllEncodable}
-use Rattle.forms.specs.Conversion.{Outcome, converted, refused, refusalAt, prepend, put, convertItems}
+use Rattle.forms.specs.Forms.{turnedAway, strictly}
+use Rattle.forms.specs.Conversion.{converted, refusalAt, prepend, convertItems}
 use Rattle.laws.specs.TwelvePairs.{Accepted}
 use Rattle.laws.specs.LayoutTable.{AllTrailing}
 use Rattle.laws.proofs.Sequences.{joined, taken-trailing, sequences-full, sequences-joined}
 use Rattle.laws.proofs.FormLaws.{Reads, Laws}
+use Rattle.laws.proofs.Outcomes.{prepend-converted, put-some, put-converted}
+use Rattle.laws.proofs.Narrowed.{narrow-encode}
 
 -- the characters of values, one behind the other from p on
 abbrev pub charactersFrom : Form → ℕ → List ℕ → List Item
@@ -95,58 +97,50 @@ module _ (F : Form) (laws : Laws F) where
   items-characters vs a =
       ap (items F) (sym (append-nil (encodeAll F vs))) ∙ read-characters vs 0 [] a ∙ append-nil (charactersFrom F 0 vs)
 
-pub prepend-converted : (e es : List ℕ) (o : Outcome) → prepend e o ≡ converted es → (fs : List ℕ) × (o ≡ converted fs) × (es ≡ e ++ fs)
-prepend-converted e es (converted fs) h = (fs, refl, cc)
-prepend-converted e es (refused r) h = absurd (let z : _≡_ {A = ℕ} 0 1 = cc in omega arith)
-
--- what is put is no empty encoding, or it is a refusal
-pub put-some : (e : List ℕ) (r : Refusal) (o : Outcome) → e ≢ [] → put e r o ≡ prepend e o
-put-some [] r o n = absurd (n refl)
-put-some (u ∷ e) r o n = refl
-
-pub put-converted : (e es : List ℕ) (r : Refusal) (o : Outcome) → put e r o ≡ converted es → (e ≢ []) × (prepend e o ≡ converted es)
-put-converted [] es r o h = absurd (let z : _≡_ {A = ℕ} 0 1 = cc in omega arith)
-put-converted (u ∷ e) es r o h = ((λ n. let z : _≡_ {A = ℕ} 0 1 = cc in omega arith), h)
-
 module _ (F : Form) (laws : Laws F) (G : Form) where
-  -- characters that the target holds are converted one by one
-  pub convert-characters : (vs : List ℕ) (p : ℕ) → AllEncodable G vs → convertItems G (charactersFrom F p vs) ≡ converted (encodeAll G vs)
+  -- the target, as strict conversion takes it
+  abbrev H : Form
+  H = strictly G
+
+  -- characters that it holds are converted one by one
+  convert-characters : (vs : List ℕ) (p : ℕ) → AllEncodable H vs → convertItems H (charactersFrom F p vs) ≡ converted (encodeAll G vs)
   convert-characters [] p a = refl
   convert-characters (v ∷ vs) p a =
-      put-some (encode G v) (refusalAt (Character v (span p (length (encode F v))))) (convertItems G (charactersFrom F (p + length (encode F v)) vs)) (a .0)
-      ∙ ap (prepend (encode G v)) (convert-characters vs (p + length (encode F v)) (a .1))
+      put-some (encode H v) (refusalAt (H .excluded) (Character v (span p (length (encode F v))))) (convertItems H (charactersFrom F (p + length (encode F v)) vs)) (a .0)
+      ∙ ap (prepend (encode H v)) (convert-characters vs (p + length (encode F v)) (a .1))
+      ∙ ap (λ (e : List ℕ). converted (e ++ encodeAll G vs)) (narrow-encode turnedAway G v (a .0))
 
   accept-one :
-      (c : Sequence) (v : ℕ) (cs : List Sequence) (es fs : List ℕ) → Reads F c v → encode G v ≢ [] → es ≡ encode G v ++ fs
+      (c : Sequence) (v : ℕ) (cs : List Sequence) (es fs : List ℕ) → Reads F c v → encode H v ≢ [] → es ≡ encode H v ++ fs
       → Accepted F G (joined cs) fs → Accepted F G (units c ++ joined cs) es
   accept-one c v cs es fs r x e a =
       let l = laws .only c v r in
       record {
         values = v ∷ a .values;
         source = ap (λ (x : List ℕ). x ++ joined cs) (sym l) ∙ ap (λ (y : List ℕ). encode F v ++ y) (a .source);
-        result = e ∙ ap (λ (y : List ℕ). encode G v ++ y) (a .result);
+        result = e ∙ ap (λ (y : List ℕ). y ++ fs) (narrow-encode turnedAway G v x) ∙ ap (λ (y : List ℕ). encode G v ++ y) (a .result);
         from = (reads-encodable F laws c v r, a .from);
         to = (x, a .to);
       }
 
-  accept : (cs : List Sequence) (p : ℕ) (es : List ℕ) → AllTaken F cs → convertItems G (itemsFrom F p cs) ≡ converted es → Accepted F G (joined cs) es
+  accept : (cs : List Sequence) (p : ℕ) (es : List ℕ) → AllTaken F cs → convertItems H (itemsFrom F p cs) ≡ converted es → Accepted F G (joined cs) es
   accept [] p es a h = let e : es ≡ [] = cc in record { values = []; source = refl; result = e; from = tt; to = tt }
   accept (c ∷ cs) p es a h = go (content F c) refl (accept cs (p + size c)) h
     where
       go :
           (t : Content) → content F c ≡ t
-          → ((fs : List ℕ) → AllTaken F cs → convertItems G (itemsFrom F (p + size c) cs) ≡ converted fs → Accepted F G (joined cs) fs)
-          → convertItems G (withSpan t (span p (size c)) ∷ itemsFrom F (p + size c) cs) ≡ converted es → Accepted F G (units c ++ joined cs) es
+          → ((fs : List ℕ) → AllTaken F cs → convertItems H (itemsFrom F (p + size c) cs) ≡ converted fs → Accepted F G (joined cs) fs)
+          → convertItems H (withSpan t (span p (size c)) ∷ itemsFrom F (p + size c) cs) ≡ converted es → Accepted F G (units c ++ joined cs) es
       go (mark f) e k h = absurd (let z : _≡_ {A = ℕ} 0 1 = cc in omega arith)
       go (character v) e k h =
-          let o = convertItems G (itemsFrom F (p + size c) cs) in
-          let q = put-converted (encode G v) es (refusalAt (Character v (span p (size c)))) o h in
-          let r = prepend-converted (encode G v) es o (q .1) in
+          let o = convertItems H (itemsFrom F (p + size c) cs) in
+          let q = put-converted (encode H v) es (refusalAt (H .excluded) (Character v (span p (size c)))) o h in
+          let r = prepend-converted (encode H v) es o (q .1) in
           accept-one c v cs es (r .0) (content-reads F c v (a .0) e) (q .0) (r .2) (k (r .0) (a .1) (r .1))
 
-  pub accepted : (s es : List ℕ) → convertItems G (items F s) ≡ converted es → Accepted F G s es
+  pub accepted : (s es : List ℕ) → convertItems H (items F s) ≡ converted es → Accepted F G s es
   accepted s es h = subst (λ (x : List ℕ). Accepted F G x es) (sequences-joined F s 0) (accept (sequences F s) 0 es (all-taken F s 0) h)
 
   -- and a text of such characters is accepted
-  pub characters-accepted : (vs : List ℕ) → AllEncodable F vs → AllEncodable G vs → convertItems G (items F (encodeAll F vs)) ≡ converted (encodeAll G vs)
-  characters-accepted vs f g = ap (convertItems G) (items-characters F laws vs f) ∙ convert-characters vs 0 g
+  pub characters-accepted : (vs : List ℕ) → AllEncodable F vs → AllEncodable H vs → convertItems H (items F (encodeAll F vs)) ≡ converted (encodeAll G vs)
+  characters-accepted vs f g = ap (convertItems H) (items-characters F laws vs f) ∙ convert-characters vs 0 g

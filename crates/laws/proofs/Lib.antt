@@ -16,9 +16,11 @@ pub mod ByteTables
 pub mod Items
 pub mod ReadItems
 pub mod Marks
+pub mod Outcomes
+pub mod Narrowed
+pub mod Unheld
 pub mod Characters
 pub mod Buffers
-pub mod Outcomes
 pub mod Progress
 pub mod Numbers
 pub mod Exactness

@@ -15,13 +15,14 @@ use Rattle.types.specs.declared.Item.the-variants.{Character, Mark}
 use Rattle.types.specs.declared.Refusal.{Refusal}
 use Rattle.forms.specs.Fault.{limit, refusal}
 use Rattle.forms.specs.Form.{Form, Content, character, mark, size, content, span, spanOf, withSpan, itemOf, items, encode, asked}
-use Rattle.forms.specs.Forms.{ucs4}
+use Rattle.forms.specs.Forms.{ucs4, strictly}
 use Rattle.forms.specs.Conversion.{Outcome, converted, refused, encoding, refusalAt, prepend, put, convertItems, outcome}
 use Rattle.laws.proofs.Sequences.{taken-trailing}
 use Rattle.laws.proofs.FormLaws.{Laws}
 use Rattle.laws.proofs.Items.{itemsOnward, sequenceAt, items-end, items-step, length-at, within-at}
 use Rattle.laws.proofs.Carried.{is-character}
-use Rattle.laws.proofs.Characters.{content-reads, reads-encodable, put-some}
+use Rattle.laws.proofs.Outcomes.{put-some}
+use Rattle.laws.proofs.Characters.{content-reads, reads-encodable}
 
 pub prepend-none : (o : Outcome) → o ≡ prepend [] o
 prepend-none (converted es) = refl
@@ -78,24 +79,28 @@ character-onward {F} {s} {p} {v} {q} c =
 -- the items before `at` became the units `done`
 pub record Progress (F G : Form) (s : List ℕ) (at : ℕ) (done : List ℕ) : Type 0 where
   pub within : at ≤ length s
-  pub whole : outcome F G s ≡ prepend done (convertItems G (itemsOnward F s at))
+  pub whole : convertItems G (items F s) ≡ prepend done (convertItems G (itemsOnward F s at))
 
 module _ (F G : Form) (s : List ℕ) where
-  pub progress-begin : length s ≤ limit → Progress F G s 0 []
-  progress-begin h = record { within = omega arith; whole = rw (le-ltb limit (length s) h) (prepend-none (convertItems G (items F s))) }
+  pub progress-begin : Progress F G s 0 []
+  progress-begin = record { within = omega arith; whole = prepend-none (convertItems G (items F s)) }
 
-  pub progress-end : (at : ℕ) (done : List ℕ) → Progress F G s at done → length s ≤ at → outcome F G s ≡ converted done
+  pub progress-end : (at : ℕ) (done : List ℕ) → Progress F G s at done → length s ≤ at → convertItems G (items F s) ≡ converted done
   progress-end at done q h = q .whole ∙ rw (items-end F s at h) (ap converted (append-nil done))
 
-  pub progress-over : limit < length s → outcome F G s ≡ refused (refusal SourceTooLong 0)
-  progress-over h = rw (lt-ltb limit (length s) h)
+  -- fault 1 comes first, then the items
+  pub at-limit : length s ≤ limit → outcome F G s ≡ convertItems (strictly G) (items F s)
+  at-limit h = rw (le-ltb limit (length s) h)
+
+  pub over-limit : limit < length s → outcome F G s ≡ refused (refusal SourceTooLong 0)
+  over-limit h = rw (lt-ltb limit (length s) h)
 
   -- a text that comes to a result is no longer than the limit
   pub within-limit : (es : List ℕ) → outcome F G s ≡ converted es → length s ≤ limit
   within-limit es e = go (decLt limit (length s))
     where
       go : Dec (limit < length s) → length s ≤ limit
-      go (yes d) = absurd (let q : refused (refusal SourceTooLong 0) ≡ converted es = sym (progress-over d) ∙ e in let z : _≡_ {A = ℕ} 0 1 = cc in omega arith)
+      go (yes d) = absurd (let q : refused (refusal SourceTooLong 0) ≡ converted es = sym (over-limit d) ∙ e in let z : _≡_ {A = ℕ} 0 1 = cc in omega arith)
       go (no d) = omega arith
 
   module _ (p : ℕ) (h : p < length s) (i : Item) (e : i ≡ itemOf F p (sequenceAt F s p)) (done : List ℕ) (q : Progress F G s p done) where
@@ -106,19 +111,19 @@ module _ (F G : Form) (s : List ℕ) where
     abbrev behind : Outcome
     behind = convertItems G (itemsOnward F s (p + (spanOf i) .length))
 
-    here : outcome F G s ≡ prepend done (put (encoding G i) (refusalAt i) behind)
+    here : convertItems G (items F s) ≡ prepend done (put (encoding G i) (refusalAt (G .excluded) i) behind)
     here = q .whole ∙ ap (λ (x : List Item). prepend done (convertItems G x)) onward
 
-    pub progress-stops : encoding G i ≡ [] → outcome F G s ≡ refused (refusalAt i)
+    pub progress-stops : encoding G i ≡ [] → convertItems G (items F s) ≡ refused (refusalAt (G .excluded) i)
     progress-stops n = here ∙ rw n
 
     progress-some : p + (spanOf i) .length ≤ length s → encoding G i ≢ [] → Progress F G s (p + (spanOf i) .length) (done ++ encoding G i)
     progress-some w n =
-        record { within = w; whole = here ∙ ap (prepend done) (put-some (encoding G i) (refusalAt i) behind n) ∙ prepend-twice done (encoding G i) behind }
+        record { within = w; whole = here ∙ ap (prepend done) (put-some (encoding G i) (refusalAt (G .excluded) i) behind n) ∙ prepend-twice done (encoding G i) behind }
 
     -- where the whole comes to a result, so does each item
-    pub progress-next : (es : List ℕ) → outcome F G s ≡ converted es → (encoding G i ≢ []) × (length done + length (encoding G i) ≤ length es)
-    progress-next es c = put-fits done (encoding G i) es (refusalAt i) behind (sym c ∙ here)
+    pub progress-next : (es : List ℕ) → convertItems G (items F s) ≡ converted es → (encoding G i ≢ []) × (length done + length (encoding G i) ≤ length es)
+    progress-next es c = put-fits done (encoding G i) es (refusalAt (G .excluded) i) behind (sym c ∙ here)
 
   pub progress-more :
       (p v : ℕ) (q : Span) (done : List ℕ) → CharacterAt F s p v q → Progress F G s p done → encode G v ≢ [] → Progress F G s (p + q .length) (done ++ encode G v)

@@ -15,7 +15,7 @@ use Rattle.types.specs.declared.Conversion.the-variants.{Units}
 use Rattle.forms.specs.Form.{Form, unless, encode, encodeAll, AllEncodable}
 use Rattle.forms.specs.Layout.{Layout, rowLimit, lowestOf, formOf}
 use Rattle.forms.specs.Exchange.{i8Of, ebcdicOf}
-use Rattle.forms.specs.Forms.{byteLayout, utf16Layout, ucs4Layout, fssUtf, i8, utfEbcdic, utf16, ucs4}
+use Rattle.forms.specs.Forms.{byteLayout, utf16Layout, ucs4Layout, fssUtf, i8, utfEbcdic, utf16, ucs4, turnedAway, strictly}
 use Rattle.forms.specs.Conversion.{Outcome, converted, refused, outcome, answerOf}
 use Rattle.laws.specs.Room.{Room}
 use Rattle.laws.proofs.Table.{allBelow, below}
@@ -23,6 +23,7 @@ use Rattle.laws.proofs.FormLaws.{Laws}
 use Rattle.laws.proofs.LayoutLaws.{Fit, Spelling, spelling, length-shortest}
 use Rattle.laws.proofs.Exchanged.{encode-from}
 use Rattle.laws.proofs.FourForms.{fssUtf-fits, i8-fits, utf16-fits, ucs4-fits}
+use Rattle.laws.proofs.Narrowed.{wide-encodable}
 use Rattle.laws.proofs.Characters.{accepted}
 use Rattle.laws.proofs.Answers.{within-items, measured-too}
 
@@ -109,7 +110,7 @@ module _ (F G : Form) (source : Laws F) (L M : Layout) (reads : Writes F L) (wri
       go (inl e) = rw (x .long, y .long) (leb-true _ _ e)
       go (inr e) = absurd (apart (or-cases _ _ e))
 
-  all-values : (vs : List ℕ) → AllEncodable F vs → AllEncodable G vs → length (encodeAll G vs) * b ≤ a * length (encodeAll F vs)
+  all-values : (vs : List ℕ) → AllEncodable F vs → AllEncodable (strictly G) vs → length (encodeAll G vs) * b ≤ a * length (encodeAll F vs)
   all-values [] f g = omega arith
   all-values (v ∷ vs) f g =
       rw (
@@ -118,7 +119,7 @@ module _ (F G : Form) (source : Laws F) (L M : Layout) (reads : Writes F L) (wri
         add-mul (length (encode G v)) (length (encodeAll G vs)) b,
         mul-add a (length (encode F v)) (length (encodeAll F vs)),
       )
-      (omega (arith, one-value v (f .0) (g .0), all-values vs (f .1) (g .1)))
+      (omega (arith, one-value v (f .0) (wide-encodable turnedAway G v (g .0)), all-values vs (f .1) (g .1)))
 
   bounded : (s es : List ℕ) → outcome F G s ≡ converted es → length es * b ≤ a * length s
   bounded s es e =

@@ -2,22 +2,22 @@
 use Prim.Native.Nat.{ℕ, zero, suc, _+_, _*_, _-_, _≤_, _<_}
 use mathlib.Core.Path.{_≡_, refl, sym, ap, _∙_}
 use mathlib.Core.Logic.{_≢_}
-use mathlib.Core.List.{List, [], _∷_, _++_, append-assoc, append-nil}
+use mathlib.Core.List.{List, [], _∷_, _++_}
 use native.Mathlib.Omega.{arith}
 use native.Mathlib.Nat.{add-zero, add-assoc}
 use native.Mathlib.Numerals.{add-one}
 use native.Mathlib.Decide.{decLt}
-use lib.ListN.{length, getD, set, take, drop, length-append}
+use lib.ListN.{length, getD, set, take, length-append}
 use lib.Seq.{take-suc, length-take-le}
 use Rattle.types.specs.declared.Fault.{Fault}
 use Rattle.types.specs.declared.Span.{Span}
 use Rattle.types.specs.declared.Item.{Item}
 use Rattle.types.specs.declared.Item.the-variants.{Character, Mark}
-use Rattle.forms.specs.Form.{Form, size, span, spanOf, itemOf, encode}
+use Rattle.forms.specs.Form.{Form, span, spanOf, itemOf, encode}
 use Rattle.forms.specs.Buffer.{withUnits}
-use Rattle.forms.specs.Conversion.{Outcome, converted, refused, encoding, refusalAt, prepend, put, convertItems, outcome}
+use Rattle.forms.specs.Conversion.{converted, encoding, refusalAt, prepend, put, convertItems}
 use Rattle.laws.proofs.Items.{itemsOnward, sequenceAt, items-step, length-at}
-use Rattle.laws.proofs.Characters.{prepend-converted, put-some, put-converted}
+use Rattle.laws.proofs.Outcomes.{prepend-converted, put-some, put-converted}
 use Rattle.laws.proofs.Blocks.{Copied}
 use Rattle.laws.proofs.Buffers.{copy-end, with-none, with-one, with-join, length-with}
 use Rattle.laws.proofs.Progress.{CharacterAt, MarkAt, Progress, character-onward, prepend-none, prepend-twice}
@@ -76,7 +76,7 @@ module _ {F G : Form} {s : List ℕ} where
   run-one {p} {v} {q} c n =
       record {
         inside = character-onward c .1;
-        comes = ap (convertItems G) (onward F s p (Character v q) (c .inside) (c .is)) ∙ put-some (encode G v) (refusalAt (Character v q)) (convertItems G (itemsOnward F s (p + q .length))) n;
+        comes = ap (convertItems G) (onward F s p (Character v q) (c .inside) (c .is)) ∙ put-some (encode G v) (refusalAt (G .excluded) (Character v q)) (convertItems G (itemsOnward F s (p + q .length))) n;
       }
 
   -- units that are characters by themselves, each of which becomes one cell of b
@@ -102,7 +102,7 @@ module _ {F G : Form} {s : List ℕ} where
 
   convertible-put : {at n m : ℕ} (i : Item) → at < length s → i ≡ itemOf F at (sequenceAt F s at) → Convertible F G s at n m → encoding G i ≢ []
   convertible-put {at} {n} {m} i h e c =
-      put-converted (encoding G i) (c .rest) (refusalAt i) (convertItems G (itemsOnward F s (at + (spanOf i) .length)))
+      put-converted (encoding G i) (c .rest) (refusalAt (G .excluded) i) (convertItems G (itemsOnward F s (at + (spanOf i) .length)))
       (sym (ap (convertItems G) (onward F s at i h e)) ∙ c .comes) .0
 
   -- the first of them is a character

@@ -1,29 +1,27 @@
 -- What a caller of the converter and of the measure of each pair of forms has besides their contracts.
-use Prim.Native.Nat.{ℕ, _*_, _/_, _≤_, _<_}
+use Prim.Native.Nat.{ℕ, _*_, _/_, _≤_}
 use mathlib.Core.Path.{_≡_, refl}
 use mathlib.Core.Bool.{Bool, true, false, cond}
-use mathlib.Core.Logic.{_≢_}
-use mathlib.Core.List.{[]}
 use mathlib.Core.Option.{Option, none, some}
 use native.Mathlib.Omega.{arith}
 use native.Mathlib.Nat.{le-div-iff-mul-le}
-use native.Mathlib.Decide.{decLt}
 use lib.Dec.{ltb}
 use borrow.Author.Tests.{le-ltb}
 use lib.ListN.{length}
 use Rattle.types.specs.declared.Fault.{Fault}
-use Rattle.types.specs.declared.Fault.the-variants.{Unrepresentable, Surrogate}
+use Rattle.types.specs.declared.Fault.the-variants.{Unrepresentable, Surrogate, NonCharacter}
 use Rattle.forms.specs.Fault.{limit}
-use Rattle.forms.specs.Form.{Form, encode, encodeAll}
+use Rattle.forms.specs.Form.{Form, encodeAll}
 use Rattle.forms.specs.Layout.{Layout}
-use Rattle.forms.specs.Forms.{byteLayout, isSurrogate, noCharacter, orElse, utf16Layout, ucs4Layout, fssUtf, utfEbcdic, utf16, ucs4}
+use Rattle.forms.specs.Forms.{byteLayout, isSurrogate, isNonCharacter, noCharacter, orElse, utf16Layout, ucs4Layout, fssUtf, utfEbcdic, utf16, ucs4, turnedAway, strictly}
 use Rattle.laws.specs.Exactness.{OwnFault}
 use Rattle.laws.specs.TwelvePairs.{Pair}
 use Rattle.laws.proofs.FormLaws.{Laws}
 use Rattle.laws.proofs.Characters.{accepted, characters-accepted}
 use Rattle.laws.proofs.Answers.{within-items, converts-units}
 use Rattle.laws.proofs.FourForms.{fssUtf-laws, utfEbcdic-laws, utf16-laws, ucs4-laws}
-use Rattle.laws.proofs.Carried.{encodable, encodable-free}
+use Rattle.laws.proofs.Carried.{encodable-small, encodable-free}
+use Rattle.laws.proofs.Unheld.{Excludes, fssUtf-excludes, utfEbcdic-excludes, utf16-excludes, ucs4-excludes, unheld-by}
 use Rattle.laws.proofs.Exactness.{OwnFaults, other-number, exact, exact-length}
 use Rattle.laws.proofs.RoundTrip.{round-trip}
 use Rattle.laws.proofs.Room.{Writes, fssUtf-writes, utfEbcdic-writes, utf16-writes, ucs4-writes, boundTests, room}
@@ -32,8 +30,7 @@ use Rattle.laws.proofs.Room.{Writes, fssUtf-writes, utfEbcdic-writes, u
 record Supplied (F : Form) (L : Layout) : Type 0 where
   pub laws : Laws F
   pub own : OwnFaults F
-  -- of the values up to 10FFFF it excludes those that no form carries, and no others
-  pub holds : (v : ℕ) → v ≤ 0x10FFFF → noCharacter v ≡ none → F .excluded v ≡ none
+  pub excludes : Excludes F
   pub writes : Writes F L
 
 only-fault : (b : Bool) (g f : Fault) → cond b (some g) none ≡ some f → g ≡ f
@@ -54,36 +51,37 @@ above : (v : ℕ) (f : Fault) → cond (ltb 0x10FFFF v) (some Unrepresentable) n
 above v f e = one-fault (ltb 0x10FFFF v) Unrepresentable f (other-number Unrepresentable (λ e. omega arith) (λ e. omega arith)) e
 
 fssUtf-supplied : Supplied fssUtf (byteLayout 6 6)
-fssUtf-supplied = record { laws = fssUtf-laws; own = surrogates; holds = λ v h free. free; writes = fssUtf-writes }
+fssUtf-supplied = record { laws = fssUtf-laws; own = surrogates; excludes = fssUtf-excludes; writes = fssUtf-writes }
 
 utfEbcdic-supplied : Supplied utfEbcdic (byteLayout 5 7)
-utfEbcdic-supplied = record { laws = utfEbcdic-laws; own = surrogates; holds = λ v h free. free; writes = utfEbcdic-writes }
+utfEbcdic-supplied = record { laws = utfEbcdic-laws; own = surrogates; excludes = utfEbcdic-excludes; writes = utfEbcdic-writes }
 
 utf16-supplied : Supplied utf16 utf16Layout
 utf16-supplied =
-    record { laws = utf16-laws; own = λ v f e. either-fault (noCharacter v) (cond (ltb 0x10FFFF v) (some Unrepresentable) none) f (surrogates v f) (above v f) e; holds = λ v h free. rw (free, le-ltb 0x10FFFF v h); writes = utf16-writes }
+    record { laws = utf16-laws; own = λ v f e. either-fault (noCharacter v) (cond (ltb 0x10FFFF v) (some Unrepresentable) none) f (surrogates v f) (above v f) e; excludes = utf16-excludes; writes = utf16-writes }
 
 ucs4-supplied : Supplied ucs4 ucs4Layout
-ucs4-supplied = record { laws = ucs4-laws; own = surrogates; holds = λ v h free. free; writes = ucs4-writes }
+ucs4-supplied = record { laws = ucs4-laws; own = surrogates; excludes = ucs4-excludes; writes = ucs4-writes }
+
+-- and so are the faults of the target of strict conversion
+strict-own : (G : Form) → OwnFaults G → OwnFaults (strictly G)
+strict-own G own v f e =
+    either-fault (G .excluded v) (turnedAway v) f (own v f) (one-fault (isNonCharacter v) NonCharacter f (other-number NonCharacter (λ e. omega arith) (λ e. omega arith))) e
 
 pair :
     (F G : Form) (L M : Layout) → Supplied F L → Supplied G M → (a b : ℕ) → boundTests a b L M ≡ true → (most : ℕ → ℕ)
     → ((m n : ℕ) → m * b ≤ a * n → m ≤ most n) → Pair F G most
 pair F G L M f g a b test most is =
     record {
-      answers = exact F G (f .own);
-      lengths = exact-length F G (f .own);
+      answers = exact F G (f .own) (strict-own G (g .own));
+      lengths = exact-length F G (f .own) (strict-own G (g .own));
       characters =
           λ s d n o c. let u = converts-units F G s d n o c in rw (u .3) (accepted F (f .laws) G s (u .0) (within-items F G s (u .0) (u .1)));
       accepts = λ vs x y h. rw (le-ltb limit (length (encodeAll F vs)) h) (characters-accepted F (f .laws) G vs x y);
-      beyond = λ v n e. go v n e (decLt 0x10FFFF v);
+      unheld = λ v n e. unheld-by G (g .excludes) v (encodable-free F (f .laws) v n) (g .laws) (encodable-small F (f .laws) v n) e;
       room = room F G (f .laws) L M (f .writes) (g .writes) a b test most is;
       back = round-trip F G (f .laws) (g .laws);
     }
-  where
-    go : (v : ℕ) → encode F v ≢ [] → encode G v ≡ [] → Dec (0x10FFFF < v) → 0x10FFFF < v
-    go v n e (yes h) = h
-    go v n e (no h) = absurd (encodable G (g .laws) v (omega arith) (g .holds v (omega arith) (encodable-free F (f .laws) v n)) e)
 
 -- "FSS-UTF to UTF-EBCDIC 3n/2, rounded down; UTF-EBCDIC to FSS-UTF 2n"
 pub fssUtf-utfEbcdic : Pair fssUtf utfEbcdic (λ n. 3 * n / 2)

@@ -14,22 +14,25 @@ use Rattle.types.specs.declared.Refusal.{Refusal}
 use Rattle.types.specs.declared.Conversion.{Conversion}
 use Rattle.types.specs.declared.Conversion.the-variants.{Units, Refused}
 use Rattle.forms.specs.Fault.{refusal}
-use Rattle.forms.specs.Form.{Form, encode}
+use Rattle.forms.specs.Form.{Form, items, encode}
+use Rattle.forms.specs.Forms.{turnedAway}
 use Rattle.forms.specs.Buffer.{withUnits, Holds}
 use Rattle.forms.specs.Conversion.{converted, refused, convertItems, outcome, Measures, Converts}
-use Rattle.laws.proofs.Outcomes.{converted-same}
+use Rattle.laws.proofs.Outcomes.{converted-same, prepend-converted}
+use Rattle.laws.proofs.Narrowed.{narrow-target}
 use Rattle.laws.proofs.Numbers.{converts}
-use Rattle.laws.proofs.Answers.{answer-units, answer-refused}
+use Rattle.laws.proofs.Answers.{answer-units, answer-refused, within-items}
 use Rattle.laws.proofs.Buffers.{holds-none, holds-more, length-with, with-none}
-use Rattle.laws.proofs.Characters.{prepend-converted}
 use Rattle.laws.proofs.Items.{itemsOnward}
 use Rattle.laws.proofs.Runs.{Convertible, Wrote, progress-run, convertible-run}
-use Rattle.laws.proofs.Progress.{CharacterAt, MarkAt, Progress, progress-begin, progress-end, within-limit, progress-more, progress-next}
+use Rattle.laws.proofs.Progress.{CharacterAt, MarkAt, Progress, progress-begin, progress-end, progress-more, progress-next}
 
--- the items before `at` were written, and the whole comes to a result for which there is room
+-- the items before `at` were written, and the whole comes to a result for which there is room. The measure looked for FFFE and FFFF: the loop
+-- writes in the form itself, where the result is the same
 pub record Writing (F G : Form) (s d : List ℕ) (at written : ℕ) (o : List ℕ) : Type 0 where
   pub result : List ℕ
   pub all : outcome F G s ≡ converted result
+  pub wide : convertItems G (items F s) ≡ converted result
   pub fits : length result ≤ length d
   pub done : List ℕ
   pub progress : Progress F G s at done
@@ -64,9 +67,10 @@ module _ {F G : Form} {s d : List ℕ} where
           record {
             result = u .0;
             all = u .1;
+            wide = narrow-target turnedAway G (items F s) (u .0) (within-items F G s (u .0) (u .1));
             fits = omega (arith, u .2);
             done = [];
-            progress = progress-begin F G s (within-limit F G s (u .0) (u .1));
+            progress = progress-begin F G s;
             holds = holds-none d;
             same = refl;
           }
@@ -75,17 +79,17 @@ module _ {F G : Form} {s d : List ℕ} where
     pub writing-end : Writing F G s d p written o → length s ≤ p → Converts F G s d (Units written) o
     writing-end w h =
         let e = progress-end F G s p (w .done) (w .progress) h in
-        let z : w .result ≡ w .done = converted-same (sym (w .all) ∙ e) in
-        converts-all (w .done) o written e (rw z at (w .fits)) (w .holds)
+        let z : w .result ≡ w .done = converted-same (sym (w .wide) ∙ e) in
+        converts-all (w .done) o written (w .all ∙ ap converted z) (rw z at (w .fits)) (w .holds)
 
     -- no mark is left
     pub writing-mark : {A : Type 0} {f : Fault} {q : Span} → Writing F G s d p written o → MarkAt F s p f q → A
-    writing-mark {A} {f} {q} w c = absurd (progress-next F G s p (c .inside) (Mark f q) (c .is) (w .done) (w .progress) (w .result) (w .all) .0 refl)
+    writing-mark {A} {f} {q} w c = absurd (progress-next F G s p (c .inside) (Mark f q) (c .is) (w .done) (w .progress) (w .result) (w .wide) .0 refl)
 
     -- what a run may ask
     pub writing-convertible : Writing F G s d p written o → Convertible F G s p written (length o)
     writing-convertible w =
-        let q = prepend-converted (w .done) (w .result) (convertItems G (itemsOnward F s p)) (sym (w .progress .whole) ∙ w .all) in
+        let q = prepend-converted (w .done) (w .result) (convertItems G (itemsOnward F s p)) (sym (w .progress .whole) ∙ w .wide) in
         let l : length (w .result) ≡ length (w .done) + length (q .0) = ap length (q .2) ∙ length-append (w .done) (q .0) in
         record { rest = q .0; comes = q .1; fits = omega (arith, w .holds .counted, w .fits, w .same, l) }
 
@@ -96,6 +100,7 @@ module _ {F G : Form} {s d : List ℕ} where
         record {
           result = w .result;
           all = w .all;
+          wide = w .wide;
           fits = w .fits;
           done = w .done ++ r .out;
           progress = progress-run (w .progress) (r .run);
@@ -121,7 +126,7 @@ module _ {F G : Form} {s d : List ℕ} where
     module _ {v : ℕ} {q : Span} where
       pub writing-held : Writing F G s d p written o → CharacterAt F s p v q → (encode G v ≢ []) × (written + length (encode G v) ≤ length o)
       writing-held w c =
-          let n = progress-next F G s p (c .inside) (Character v q) (c .is) (w .done) (w .progress) (w .result) (w .all) in
+          let n = progress-next F G s p (c .inside) (Character v q) (c .is) (w .done) (w .progress) (w .result) (w .wide) in
           (n .0, omega (arith, n .1, w .holds .counted, w .fits, w .same))
 
       pub writing-more :
@@ -132,6 +137,7 @@ module _ {F G : Form} {s d : List ℕ} where
           record {
             result = w .result;
             all = w .all;
+            wide = w .wide;
             fits = w .fits;
             done = w .done ++ encode G v;
             progress = progress-more F G s p v q (w .done) c (w .progress) (h .0);
