@@ -7,11 +7,12 @@ use types::Span;
 ghost use mathlib.Core.Path.{_≡_};
 ghost use Rattle.forms.specs.Fault.{numberOf, refusal};
 ghost use Rattle.forms.specs.Form.{spanOf};
-ghost use Rattle.forms.specs.Conversion.{refusalAt};
+ghost use Rattle.forms.specs.Forms.{turnedAway};
+ghost use Rattle.forms.specs.Conversion.{unheldBy, refusalAt};
 ghost use Rattle.forms.specs.Lossy.{valueOf, markCount};
 
-// Document 01's number of a fault. The numbers run on but for 8, and (count + 24) / 32 adds 1 from there on: a match with the gap in it would be
-// a jump table in most exports.
+// Document 01's number of a fault. The numbers run on but for 8 and 11, and (count + 24) / 32 and (count + 22) / 32 add 1 from there on: a match
+// with the gaps in it would be a jump table in most exports.
 pub fn number(fault: Fault) -> u32
     ensures { λ r. ⌜ r ≡ numberOf fault ⌝ }
 {
@@ -25,8 +26,9 @@ pub fn number(fault: Fault) -> u32
         Fault::BufferTooShort => 7,
         Fault::OffsetOutOfRange => 8,
         Fault::Surrogate => 9,
+        Fault::NonCharacter => 10,
     };
-    count + (count + 24) / 32
+    count + (count + 24) / 32 + (count + 22) / 32
 }
 
 pub fn span(item: Item) -> Span
@@ -58,13 +60,24 @@ pub fn mark_count(item: Item) -> usize
     }
 }
 
-// Why a conversion stops at this item: a mark's fault, or 6 where the target cannot hold the character.
+// Why a strict conversion stops at a character that it does not write: FFFE and FFFF by 12, any other by 6.
+fn unheld(value: u32) -> Fault
+    ensures { λ r. ⌜ r ≡ unheldBy (turnedAway value) ⌝ }
+{
+    if (value >= 0xFFFE) & (value <= 0xFFFF) {
+        Fault::NonCharacter
+    } else {
+        Fault::Unrepresentable
+    }
+}
+
+// Why a strict conversion stops at this item: a mark's fault, or that of a character which it does not write.
 pub fn refusal(item: Item) -> Refusal
-    ensures { λ r. ⌜ r ≡ refusalAt item ⌝ }
+    ensures { λ r. ⌜ r ≡ refusalAt turnedAway item ⌝ }
 {
     match item {
-        Item::Character(_, span) => Refusal {
-            fault: Fault::Unrepresentable,
+        Item::Character(value, span) => Refusal {
+            fault: unheld(value),
             offset: span.offset,
         },
         Item::Mark(fault, span) => Refusal {

@@ -7,6 +7,7 @@ use types::Run;
 ghost use Prim.Native.Nat.{_<_, _≤_};
 ghost use lib.ListN.{length};
 ghost use Rattle.laws.proofs.Runs.{Counted};
+ghost use Rattle.forms.specs.Forms.{strictly};
 ghost use Rattle.forms.specs.Conversion.{Measures};
 ghost use Rattle.tables.specs.ByteForms.{byteForm};
 ghost use Rattle.encoder.specs.Target.{targetForm};
@@ -14,7 +15,7 @@ ghost use Rattle.encoder.specs.Target.{targetForm};
 // The characters from an offset on that are counted at once.
 fn count_run(form: ByteForm, target: Target, src: &[u8], at: usize) -> Run
     requires { ⌜ (at < length (now src)) × (length (now src) ≤ 65536) ⌝ }
-    ensures { λ r. ⌜ Counted (byteForm form) (targetForm target) (now (src .entry)) at (r .length) (r .units) ⌝ }
+    ensures { λ r. ⌜ Counted (byteForm form) (strictly (targetForm target)) (now (src .entry)) at (r .length) (r .units) ⌝ }
 {
     match form {
         ByteForm::FssUtf => measure_runs::fss_utf::count(target, src, at),

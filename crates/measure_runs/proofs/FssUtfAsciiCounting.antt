@@ -5,7 +5,7 @@ use mathlib.Core.List.{List, [], _∷_}
 use native.Mathlib.Omega.{arith}
 use lib.ListN.{length, getD, set, drop}
 use Rattle.forms.specs.Form.{Form, span, encode}
-use Rattle.forms.specs.Forms.{byteLayout, fssUtf}
+use Rattle.forms.specs.Forms.{byteLayout, fssUtf, strictly}
 use Rattle.laws.proofs.Blocks.{AtMost}
 use Rattle.laws.proofs.Carried.{free-below}
 use Rattle.laws.proofs.Progress.{CharacterAt}
@@ -23,7 +23,7 @@ ascii-at s p h l =
     (free-below (getD s p 0) (omega arith))
 
 module _ {s : List ℕ} {at : ℕ} where
-  pub ascii-counted : (t : Target) {k : ℕ} → at + k ≤ length s → AtMost s at k 127 → Counted fssUtf (targetForm t) s at k k
+  pub ascii-counted : (t : Target) {k : ℕ} → at + k ≤ length s → AtMost s at k 127 → Counted fssUtf (strictly (targetForm t)) s at k k
   ascii-counted t {k} h a =
       counted-units k (omega arith)
       (λ j i.

@@ -9,16 +9,19 @@ use native.Mathlib.Decide.{decLt}
 use lib.Dec.{leb, ltb, eqb}
 use borrow.Author.Tests.{lt-ltb, le-ltb, le-leb, lt-leb, eq-eqb, ne-eqb}
 use lib.ListN.{length}
-use Rattle.forms.specs.Form.{encode}
-use Rattle.forms.specs.Forms.{utf16, ucs4, utfEbcdic}
+use Rattle.forms.specs.Form.{Form, encode}
+use Rattle.forms.specs.Forms.{utf16, ucs4, utfEbcdic, turnedAway, strictly}
 use Rattle.forms.specs.Layout.{lowestOf}
 use Rattle.laws.proofs.FourForms.{utf16-laws}
+use Rattle.laws.proofs.Narrowed.{narrow-encode, wide-encodable, strict-same}
 use Rattle.tables.specs.ByteForms.{layoutOf}
 use Rattle.tables.proofs.ByteLayouts.{carries-below, carries-outside, encode-length}
 use Rattle.tables.specs.declared.ByteForm.the-variants.{UtfEbcdic}
+use Rattle.encoder.specs.Target.{targetForm}
+use Rattle.encoder.specs.declared.Target.{Target}
 use Rattle.encoder.specs.declared.Target.the-variants.{Utf16, Ucs4}
 use Rattle.laws.proofs.UnitEncodings.{ucs4-encoding, ucs4-outside, ucs4-below, below-surrogates, above-surrogates, pair, unit}
-use Rattle.encoder.proofs.Targets.{encode-seven}
+use Rattle.encoder.proofs.Targets.{target-seven, encode-seven}
 use Rattle.encoder.specs.declared.Target.the-variants as target
 use Rattle.measure_runs.specs.declared.fss_utf_validation.Weights.{Weights}
 use Rattle.measure_runs.specs.Validation.{bit, reached, added, LeadWeights, Weighs, value2, value3, value4, utfEbcdicWeights, utf16Weights, ucs4Weights}
@@ -80,12 +83,12 @@ module _ (w : Weights) (h : LeadWeights w) (far : (x : ℕ) → x < 0xC0 → x �
 lead-one : (w : Weights) (p b : ℕ) → 0xC0 ≤ b → b < w .two → b < w .three → b < w .four → b < w .five → added w p b ≡ 1
 lead-one w p b h i j k l = lead-adds w p b h ∙ rw (not-reached (w .two) b i, not-reached (w .three) b j, not-reached (w .four) b k, not-reached (w .five) b l)
 
-pub ucs4-weighs : Weighs ucs4Weights ucs4
+ucs4-weighs : Weighs ucs4Weights ucs4
 ucs4-weighs =
     record {
       low = λ v h. cons-some (ucs4-below v h);
-      high = λ v h k. cons-some (ucs4-outside v (λ z. h) (omega arith));
-      few = λ v. encode-seven Ucs4 v;
+      high = λ v h k o. cons-some (ucs4-outside v (λ z. h) (omega arith));
+      few = λ v. target-seven Ucs4 v;
       one = λ p b h. ascii-adds high p b h ∙ sym (ap length (ucs4-below b (omega arith)));
       two = λ p a b h i j k. two-adds ucs4Weights high far p a b (λ z. omega (arith, z)) j k ∙ lead p a (omega arith) (omega arith) ∙ sym (ap length (ucs4-below (value2 a b) (omega arith)));
       three =
@@ -105,12 +108,12 @@ ucs4-weighs =
     lead : (p a : ℕ) → 0xC0 ≤ a → a < 0xFF → added ucs4Weights p a ≡ 1
     lead p a h i = lead-one ucs4Weights p a h i i i i
 
-pub utf16-weighs : Weighs utf16Weights utf16
+utf16-weighs : Weighs utf16Weights utf16
 utf16-weighs =
     record {
       low = λ v h. cons-some (below-surrogates v h);
-      high = high-some;
-      few = λ v. encode-seven Utf16 v;
+      high = λ v h k o. high-some v h k;
+      few = λ v. target-seven Utf16 v;
       one = λ p b h. ascii-adds high p b h ∙ sym (ap length (below-surrogates b (omega arith)));
       two = λ p a b h i j k. two-adds utf16Weights high far p a b (λ z. omega (arith, z)) j k ∙ lead p a (omega arith) (omega arith) ∙ sym (ap length (below-surrogates (value2 a b) (omega arith)));
       three =
@@ -140,12 +143,12 @@ utf16-weighs =
     lead-two : (p a : ℕ) → 0xF0 ≤ a → a < 0xFF → added utf16Weights p a ≡ 2
     lead-two p a h i = lead-adds utf16Weights p a (omega arith) ∙ rw (le-leb 0xF0 a h)
 
-pub utfEbcdic-weighs : Weighs utfEbcdicWeights utfEbcdic
+utfEbcdic-weighs : Weighs utfEbcdicWeights utfEbcdic
 utfEbcdic-weighs =
     record {
       low = λ v h. carries-below UtfEbcdic v h;
-      high = λ v h k. carries-outside UtfEbcdic v (λ z. h) (omega arith);
-      few = λ v. encode-seven target.UtfEbcdic v;
+      high = λ v h k o. carries-outside UtfEbcdic v (λ z. h) (omega arith);
+      few = λ v. target-seven target.UtfEbcdic v;
       one = λ p b h. ascii-adds high p b h ∙ sym (encode-length UtfEbcdic b (carries-below UtfEbcdic b (omega arith)) 0 (omega arith) (omega arith) (omega arith));
       two = λ p a b h i j k. pair-adds p a b (decLt a 0xC3) (decLt b 0xA0) (decLt a 0xD0) h i j k;
       three =
@@ -210,3 +213,32 @@ utfEbcdic-weighs =
     lead-four p a b c d (no f) h i j k l m x y u n =
         lead-is p a true true true true (omega arith) (le-leb 0xC3 a (omega arith)) (le-leb 0xD0 a (omega arith)) (le-leb 0xE4 a (omega arith)) (le-leb 0xF1 a (omega arith))
         ∙ long 4 (value4 a b c d) (carries-outside UtfEbcdic (value4 a b c d) (λ z. omega arith) (omega arith)) (omega arith) (omega arith) (omega arith)
+
+-- and so they do where strict conversion writes it
+module _ (t : Target) (w : Weights) (plain : Weighs w (targetForm t)) where
+  abbrev G : Form
+  G = targetForm t
+
+  same : (v : ℕ) → (0xFFFE ≤ v → 0x10000 ≤ v) → length (encode G v) ≡ length (encode (strictly G) v)
+  same v o = sym (ap length (strict-same G v o))
+
+  strict-weighs : Weighs w (strictly G)
+  strict-weighs =
+      record {
+        low = λ v h e. plain .low v h (sym (strict-same G v (λ l. omega arith)) ∙ e);
+        high = λ v h k o e. plain .high v h k o (sym (strict-same G v o) ∙ e);
+        few = encode-seven t;
+        one = λ p b h. plain .one p b h ∙ same b (λ l. omega arith);
+        two = λ p a b h i j k. plain .two p a b h i j k ∙ same (value2 a b) (λ l. omega arith);
+        three = λ p a b c h i j k l m u n. plain .three p a b c h i j k l m u (wide-encodable turnedAway G (value3 a b c) n) ∙ sym (ap length (narrow-encode turnedAway G (value3 a b c) n));
+        four = λ p a b c d h i j k l m x y u n. plain .four p a b c d h i j k l m x y u n ∙ same (value4 a b c d) (λ l. u);
+      }
+
+pub ucs4-strict-weighs : Weighs ucs4Weights (strictly ucs4)
+ucs4-strict-weighs = strict-weighs Ucs4 ucs4Weights ucs4-weighs
+
+pub utf16-strict-weighs : Weighs utf16Weights (strictly utf16)
+utf16-strict-weighs = strict-weighs Utf16 utf16Weights utf16-weighs
+
+pub utfEbcdic-strict-weighs : Weighs utfEbcdicWeights (strictly utfEbcdic)
+utfEbcdic-strict-weighs = strict-weighs target.UtfEbcdic utfEbcdicWeights utfEbcdic-weighs

@@ -1,24 +1,24 @@
 -- How many units a block of UCS-4 becomes: by the bounds that its units reach.
 use Prim.Native.Nat.{ℕ, suc, _+_, _-_, _≤_, _<_}
-use mathlib.Core.Path.{_≡_, refl, sym, ap, _∙_}
+use mathlib.Core.Path.{_≡_, sym, ap, _∙_}
 use mathlib.Core.Logic.{_≢_}
-use mathlib.Core.Bool.{Bool, true, false, _||_}
+use mathlib.Core.Bool.{Bool, true, false}
 use mathlib.Core.List.{List, []}
 use native.Mathlib.Omega.{arith}
 use native.Mathlib.Nat.{add-zero, zero-add}
 use native.Mathlib.Decide.{decLt}
 use lib.Dec.{leb}
 use lib.ListN.{length, getD}
-use borrow.Author.Tests.{le-leb, lt-leb, leb-false}
-use borrow.Author.Count.{below-none, below-more}
+use borrow.Author.Tests.{le-leb, lt-leb}
 use Rattle.forms.specs.Form.{Form, encode}
-use Rattle.forms.specs.Forms.{isSurrogate, ucs4, utf16}
+use Rattle.forms.specs.Forms.{isSurrogate, isNonCharacter, ucs4, utf16, turnedAway, strictly}
 use Rattle.forms.specs.Layout.{lowestOf}
 use Rattle.laws.proofs.Runs.{Counted, sum, sum-zero, sum-more, Next, between}
-use Rattle.laws.proofs.Blocks.{AtMost, NoSurrogates, no-surrogates}
+use Rattle.laws.proofs.Blocks.{AtMost, NoneOf, no-surrogates, no-non-characters}
 use Rattle.laws.proofs.FormLaws.{Laws}
 use Rattle.laws.proofs.FourForms.{utf16-laws}
 use Rattle.laws.proofs.Carried.{outside, is-character}
+use Rattle.laws.proofs.Narrowed.{as-before, narrowed-laws, strict-same}
 use Rattle.laws.proofs.Values.{neither-left, neither-right, sum-along, sum-plus, sum-ones, sum-none}
 use Rattle.tables.specs.ByteForms.{byteForm, layoutOf}
 use Rattle.tables.specs.declared.ByteForm.{ByteForm}
@@ -27,12 +27,22 @@ use Rattle.tables.proofs.ByteLayouts.{byte-laws, rise, carries, small, encode-l
 use Rattle.encoder.specs.declared.Target.the-variants as Target
 use Rattle.encoder.proofs.Targets.{encode-seven}
 use Rattle.laws.proofs.UnitEncodings.{below-surrogates, above-surrogates, pair}
-use Rattle.measure_runs.specs.Ucs4Bounds.{number, reached, reachedAt, unitsAt}
+use Rattle.measure_runs.specs.Ucs4Bounds.{isExcluded, number, reached, reachedAt, unitsAt}
 use Rattle.measure_runs.proofs.Ucs4Units.{unit-character}
 
 -- a list of one or more is not empty
 some : (e : List ℕ) (n : ℕ) → length e ≡ 1 + n → e ≢ []
 some e n h z = omega (arith, h, ap length z)
+
+-- a value that strict conversion writes in some form
+no-surrogate : (v : ℕ) → isExcluded v ≡ false → isSurrogate v ≡ false
+no-surrogate v e = neither-left (isSurrogate v) (isNonCharacter v) e
+
+no-non-character : (v : ℕ) → isExcluded v ≡ false → isNonCharacter v ≡ false
+no-non-character v e = neither-right (isSurrogate v) (isNonCharacter v) e
+
+pub none-excluded : {s : List ℕ} {at n m : ℕ} → AtMost s at n m → m < 0xD800 → NoneOf isExcluded s at n
+none-excluded a h = record { each = λ k i. rw (no-surrogates a h .each k i, no-non-characters a (omega arith) .each k i) }
 
 -- units that the target holds become as many units as their encodings have
 module _ (G : Form) (laws : Laws G) (s : List ℕ) (at k : ℕ) (inside : at + k ≤ length s) where
@@ -81,7 +91,7 @@ number-most false = omega arith
 pub reached-most : (a b c v : ℕ) → reached a b c v ≤ 3
 reached-most a b c v = omega (arith, number-most (leb a v), number-most (leb b v), number-most (leb c v))
 
-byte-seven : (f : ByteForm) (v : ℕ) → length (encode (byteForm f) v) ≤ 7
+byte-seven : (f : ByteForm) (v : ℕ) → length (encode (strictly (byteForm f)) v) ≤ 7
 byte-seven FssUtf v = encode-seven Target.FssUtf v
 byte-seven UtfEbcdic v = encode-seven Target.UtfEbcdic v
 
@@ -148,15 +158,18 @@ module _ (f : ByteForm) where
 
   -- a block of characters
   pub counted-bytes :
-      (s : List ℕ) (at k m : ℕ) → at + k ≤ length s → AtMost s at k m → m < 0x80000000 → NoSurrogates s at k → Counted ucs4 (byteForm f) s at k (k + (sum (front s) at k + sum (back s) at k))
-  counted-bytes s at k m i a h o =
+      (s : List ℕ) (at k m : ℕ) → at + k ≤ length s → AtMost s at k m → m < 0x80000000 → NoneOf isExcluded s at k
+      → Counted ucs4 (strictly (byteForm f)) s at k (k + (sum (front s) at k + sum (back s) at k))
+  counted-bytes s at k m i a h n =
       let u : (j : ℕ) → j < k → encode (byteForm f) (getD s (at + j) 0) ≢ [] =
-      λ j b. carries f (getD s (at + j) 0) (omega (arith, a .each j b)) (rw (o .each j b)) in
-      let q : sum (λ i. length (encode (byteForm f) (getD s i 0))) at k ≡ k + (sum (front s) at k + sum (back s) at k) =
-      sum-along (λ i. length (encode (byteForm f) (getD s i 0))) (λ i. 1 + (front s i + back s i)) at at k (λ j b. byte-length (getD s (at + j) 0) (u j b))
+      λ j b. carries f (getD s (at + j) 0) (omega (arith, a .each j b)) (rw (no-surrogate (getD s (at + j) 0) (n .each j b))) in
+      let same : (j : ℕ) → j < k → encode (strictly (byteForm f)) (getD s (at + j) 0) ≡ encode (byteForm f) (getD s (at + j) 0) =
+      λ j b. as-before turnedAway (byteForm f) (getD s (at + j) 0) (rw (no-non-character (getD s (at + j) 0) (n .each j b))) in
+      let q : sum (λ i. length (encode (strictly (byteForm f)) (getD s i 0))) at k ≡ k + (sum (front s) at k + sum (back s) at k) =
+      sum-along (λ i. length (encode (strictly (byteForm f)) (getD s i 0))) (λ i. 1 + (front s i + back s i)) at at k (λ j b. ap length (same j b) ∙ byte-length (getD s (at + j) 0) (u j b))
       ∙ sum-plus (λ i. 1) (λ i. front s i + back s i) at k
       ∙ rw (sum-ones at k, sum-plus (front s) (back s) at k) in
-      rw (← q) (counted-units (byteForm f) (byte-laws f) s at k i (λ j b. (u j b, byte-seven f (getD s (at + j) 0))))
+      rw (← q) (counted-units (strictly (byteForm f)) (narrowed-laws turnedAway (byteForm f) (byte-laws f)) s at k i (λ j b. ((λ e. u j b (sym (same j b) ∙ e)), byte-seven f (getD s (at + j) 0))))
 
   one-low : low 1 ≤ 0xD800
   one-low = go f
@@ -167,7 +180,7 @@ module _ (f : ByteForm) where
 
   module _ {s : List ℕ} {at k m : ℕ} (i : at + k ≤ length s) (most : AtMost s at k m) where
     -- all below the first bound, below the fourth, or any
-    pub bytes-one : {a : ℕ} → a ≡ low 1 → m < a → Counted ucs4 (byteForm f) s at k k
+    pub bytes-one : {a : ℕ} → a ≡ low 1 → m < a → Counted ucs4 (strictly (byteForm f)) s at k k
     bytes-one {a} p h =
         let z : sum (front s) at k ≡ 0 =
         sum-none (front s) at k (λ j l. reached-none (low 1) (low 2) (low 3) (getD s (at + j) 0) (omega (arith, most .each j l)) (rises 0 (omega arith)) (rises 1 (omega arith))) in
@@ -178,33 +191,34 @@ module _ (f : ByteForm) where
         (rises 3 (omega arith))
         (rises 4 (omega arith))) in
         let q : k + (sum (front s) at k + sum (back s) at k) ≡ k = omega (arith, z, y) in
-        rw q at (counted-bytes s at k m i most (omega (arith, one-low)) (no-surrogates most (omega (arith, one-low))))
+        rw q at (counted-bytes s at k m i most (omega (arith, one-low)) (none-excluded most (omega (arith, one-low))))
 
-    module _ {a b c r w : ℕ} (p : a ≡ low 1) (q : b ≡ low 2) (t : c ≡ low 3) (x : r ≡ sum (reachedAt a b c s) at k) (y : w ≡ r) (h : m < 0x80000000) (o : NoSurrogates s at k) where
+    module _ {a b c r w : ℕ} (p : a ≡ low 1) (q : b ≡ low 2) (t : c ≡ low 3) (x : r ≡ sum (reachedAt a b c s) at k) (y : w ≡ r) (h : m < 0x80000000) (o : NoneOf isExcluded s at k) where
       counted-front : w ≡ sum (front s) at k
       counted-front = y ∙ x ∙ rw (p, q, t)
 
-      pub bytes-few : {d : ℕ} → d ≡ low 4 → m < d → Counted ucs4 (byteForm f) s at k (k + w)
+      pub bytes-few : {d : ℕ} → d ≡ low 4 → m < d → Counted ucs4 (strictly (byteForm f)) s at k (k + w)
       bytes-few {d} u l =
           let z : sum (back s) at k ≡ 0 =
           sum-none (back s) at k (λ j n. reached-none (low 4) (low 5) (low 6) (getD s (at + j) 0) (omega (arith, most .each j n)) (rises 3 (omega arith)) (rises 4 (omega arith))) in
           let v : k + (sum (front s) at k + sum (back s) at k) ≡ k + w = omega (arith, z, counted-front) in
           rw v at (counted-bytes s at k m i most h o)
 
-      pub bytes-all : {d e g r₂ w₂ : ℕ} → d ≡ low 4 → e ≡ low 5 → g ≡ low 6 → r₂ ≡ sum (reachedAt d e g s) at k → w₂ ≡ r₂ → Counted ucs4 (byteForm f) s at k (k + w + w₂)
+      pub bytes-all : {d e g r₂ w₂ : ℕ} → d ≡ low 4 → e ≡ low 5 → g ≡ low 6 → r₂ ≡ sum (reachedAt d e g s) at k → w₂ ≡ r₂ → Counted ucs4 (strictly (byteForm f)) s at k (k + w + w₂)
       bytes-all {d} {e} {g} {r₂} {w₂} u v n x₂ y₂ =
           let z : w₂ ≡ sum (back s) at k = y₂ ∙ x₂ ∙ rw (u, v, n) in
           let t₂ : k + (sum (front s) at k + sum (back s) at k) ≡ k + w + w₂ = omega (arith, z, counted-front) in
           rw t₂ at (counted-bytes s at k m i most h o)
 
 -- UTF-16
--- a value that is no surrogate and lies below 110000
-pub record Held (v : ℕ) : Type 0 where
+-- a value that is no surrogate, neither FFFE nor FFFF, and below 110000
+record Held (v : ℕ) : Type 0 where
   pub outside : (0xD800 ≤ v → 0xE000 ≤ v)
+  pub passes : isNonCharacter v ≡ false
   pub below : v < 0x110000
 
-held-length : (v : ℕ) → Held v → length (encode utf16 v) ≡ 1 + number (leb 0x10000 v)
-held-length v h = go (decLt v 0xD800) (decLt v 0x10000)
+held-length : (v : ℕ) → Held v → length (encode (strictly utf16) v) ≡ 1 + number (leb 0x10000 v)
+held-length v h = ap length (as-before turnedAway utf16 v (rw (h .passes))) ∙ go (decLt v 0xD800) (decLt v 0x10000)
   where
     go : Dec (v < 0xD800) → Dec (v < 0x10000) → length (encode utf16 v) ≡ 1 + number (leb 0x10000 v)
     go (yes a) b = ap length (below-surrogates v a) ∙ rw (lt-leb 0x10000 v (omega arith))
@@ -212,41 +226,29 @@ held-length v h = go (decLt v 0xD800) (decLt v 0x10000)
     go (no a) (no b) = ap length (pair v (omega arith) (h .below)) ∙ rw (le-leb 0x10000 v (omega arith))
 
 -- what the test says of a unit
-held-test : (v : ℕ) → isSurrogate v ≡ false → leb 0x110000 v ≡ false → Held v
-held-test v e g = record { outside = outside v (rw e); below = leb-false 0x110000 v g }
-
--- none of k units failed the test
-pub record Clean (s : List ℕ) (at k : ℕ) (bad : Bool) : Type 0 where
-  pub each : bad ≡ false → (j : ℕ) → j < k → Held (getD s (at + j) 0)
-
-pub clean-none : {s : List ℕ} {at : ℕ} {bad : Bool} → Clean s at 0 bad
-clean-none {s} {at} {bad} = record { each = λ e. below-none (λ (j : ℕ). Held (getD s (at + j) 0)) }
-
-pub clean-more :
-    {s : List ℕ} {at k : ℕ} {bad gap : Bool} → Clean s at k bad → gap ≡ isSurrogate (getD s (at + k) 0) → Clean s at (k + 1) ((bad || gap) || leb 0x110000 (getD s (at + k) 0))
-clean-more {s} {at} {k} {bad} {gap} c is =
-    let v = getD s (at + k) 0 in
-    record {
-      each =
-          λ e.
-          let f = neither-left (bad || gap) (leb 0x110000 v) e in
-          below-more (λ (j : ℕ). Held (getD s (at + j) 0)) k (c .each (neither-left bad gap f)) (held-test v (sym is ∙ neither-right bad gap f) (neither-right (bad || gap) (leb 0x110000 v) e));
-    }
+held-test : (v : ℕ) → isExcluded v ≡ false → v < 0x110000 → Held v
+held-test v e h = record { outside = outside v (rw (no-surrogate v e)); passes = no-non-character v e; below = h }
 
 pub units-most : (s : List ℕ) (i : ℕ) → unitsAt s i ≤ 2
 units-most s i = omega (arith, number-most (leb 0x10000 (getD s i 0)))
 
-pub counted-utf16 : (s : List ℕ) (at k : ℕ) → at + k ≤ length s → Clean s at k false → Counted ucs4 utf16 s at k (sum (unitsAt s) at k)
-counted-utf16 s at k i c =
-    let q = sum-along (λ i. length (encode utf16 (getD s i 0))) (unitsAt s) at at k (λ j b. held-length (getD s (at + j) 0) (c .each refl j b)) in
+strict-laws : Laws (strictly utf16)
+strict-laws = narrowed-laws turnedAway utf16 utf16-laws
+
+pub counted-utf16 :
+    (s : List ℕ) (at k m : ℕ) → at + k ≤ length s → AtMost s at k m → m < 0x110000 → NoneOf isExcluded s at k → Counted ucs4 (strictly utf16) s at k (sum (unitsAt s) at k)
+counted-utf16 s at k m i a h n =
+    let held : (j : ℕ) → j < k → Held (getD s (at + j) 0) = λ j b. held-test (getD s (at + j) 0) (n .each j b) (omega (arith, a .each j b)) in
+    let q = sum-along (λ i. length (encode (strictly utf16) (getD s i 0))) (unitsAt s) at at k (λ j b. held-length (getD s (at + j) 0) (held j b)) in
     rw (← q)
-    (counted-units utf16 utf16-laws s at k i
-    (λ j b. let u = c .each refl j b in (some (encode utf16 (getD s (at + j) 0)) _ (held-length (getD s (at + j) 0) u), encode-seven Target.Utf16 (getD s (at + j) 0))))
+    (counted-units (strictly utf16) strict-laws s at k i
+    (λ j b. (some (encode (strictly utf16) (getD s (at + j) 0)) _ (held-length (getD s (at + j) 0) (held j b)), encode-seven Target.Utf16 (getD s (at + j) 0))))
 
 -- units below the surrogates are a unit each
-pub utf16-one : {s : List ℕ} {at k m : ℕ} → at + k ≤ length s → AtMost s at k m → m < 0xD800 → Counted ucs4 utf16 s at k k
+pub utf16-one : {s : List ℕ} {at k m : ℕ} → at + k ≤ length s → AtMost s at k m → m < 0xD800 → Counted ucs4 (strictly utf16) s at k k
 utf16-one {s} {at} {k} {m} i a h =
-    let one : (j : ℕ) → j < k → length (encode utf16 (getD s (at + j) 0)) ≡ 1 = λ j b. ap length (below-surrogates (getD s (at + j) 0) (omega (arith, a .each j b))) in
-    let q : sum (λ i. length (encode utf16 (getD s i 0))) at k ≡ k = sum-along (λ i. length (encode utf16 (getD s i 0))) (λ i. 1) at at k one ∙ sum-ones at k in
+    let one : (j : ℕ) → j < k → length (encode (strictly utf16) (getD s (at + j) 0)) ≡ 1 =
+    λ j b. ap length (strict-same utf16 (getD s (at + j) 0) (λ l. omega (arith, a .each j b)) ∙ below-surrogates (getD s (at + j) 0) (omega (arith, a .each j b))) in
+    let q : sum (λ i. length (encode (strictly utf16) (getD s i 0))) at k ≡ k = sum-along (λ i. length (encode (strictly utf16) (getD s i 0))) (λ i. 1) at at k one ∙ sum-ones at k in
     rw q at
-    (counted-units utf16 utf16-laws s at k i (λ j b. (some (encode utf16 (getD s (at + j) 0)) 0 (one j b), encode-seven Target.Utf16 (getD s (at + j) 0))))
+    (counted-units (strictly utf16) strict-laws s at k i (λ j b. (some (encode (strictly utf16) (getD s (at + j) 0)) 0 (one j b), encode-seven Target.Utf16 (getD s (at + j) 0))))

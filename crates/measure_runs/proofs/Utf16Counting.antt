@@ -10,12 +10,13 @@ use native.Mathlib.Decide.{decLt}
 use lib.Dec.{leb, ltb}
 use lib.ListN.{length, getD}
 use borrow.Author.Tests.{le-leb, lt-leb, le-ltb, lt-ltb}
-use Rattle.forms.specs.Form.{encode}
-use Rattle.forms.specs.Forms.{isSurrogate, utf16, fssUtf, utfEbcdic, ucs4}
+use Rattle.forms.specs.Form.{Form, encode}
+use Rattle.forms.specs.Forms.{isSurrogate, isNonCharacter, utf16, fssUtf, utfEbcdic, ucs4, turnedAway, strictly}
 use Rattle.laws.proofs.Rows.{within-in}
 use Rattle.laws.proofs.Carried.{not-surrogate}
+use Rattle.laws.proofs.Narrowed.{as-before, strict-same}
 use Rattle.laws.proofs.Runs.{Counted, sum, sum-zero, sum-more, Next, between}
-use Rattle.laws.proofs.Blocks.{AtMost}
+use Rattle.laws.proofs.Blocks.{AtMost, NoNonCharacters, no-non-characters}
 use Rattle.laws.proofs.Values.{sum-ones}
 use Rattle.tables.specs.declared.ByteForm.the-variants as Byte
 use Rattle.tables.proofs.ByteLayouts.{carries-below, carries-outside, encode-length}
@@ -41,10 +42,25 @@ module _
     (a : ℕ → ℕ)
     (units : (i : ℕ) → getD s i 0 < 0x10000)
     (w : Whole s at k)
+    (non : NoNonCharacters s at k)
     (single : (p : ℕ) → at ≤ p → p < at + k → (0xD800 ≤ getD s p 0 → 0xE000 ≤ getD s p 0) → (n : ℕ) × (a p ≡ 1 + n) × (length (encode (targetForm t) (getD s p 0)) ≡ 1 + n))
     (pair :
     (p : ℕ) → at ≤ p → p + 1 < at + k → (0xD800 ≤ getD s p 0) × (getD s p 0 < 0xDC00) → (0xDC00 ≤ getD s (p + 1) 0) × (getD s (p + 1) 0 < 0xE000)
     → (n : ℕ) × (a p + a (p + 1) ≡ 1 + n) × (length (encode (targetForm t) (pairValue (getD s p 0) (getD s (p + 1) 0))) ≡ 1 + n)) where
+  -- the target of strict conversion
+  abbrev G : Form
+  G = strictly (targetForm t)
+
+  -- a unit that is a character has the encoding of the form itself
+  same-unit : (p : ℕ) → at ≤ p → p < at + k → length (encode G (getD s p 0)) ≡ length (encode (targetForm t) (getD s p 0))
+  same-unit p h l =
+      let e : at + (p - at) ≡ p = omega arith in
+      let n : isNonCharacter (getD s p 0) ≡ false = rw e at (non .each (p - at) (omega arith)) in
+      ap length (as-before turnedAway (targetForm t) (getD s p 0) (rw n))
+
+  same-pair : (u v : ℕ) → length (encode G (pairValue u v)) ≡ length (encode (targetForm t) (pairValue u v))
+  same-pair u v = ap length (strict-same (targetForm t) (pairValue u v) (λ l. omega arith))
+
   -- no low unit stands where a character may begin
   border : ℕ → Type 0
   border p = p < at + k → isLow (getD s p 0) ≡ false
@@ -60,21 +76,22 @@ module _
       let e : at + (p - at) ≡ p = omega arith in
       rw e at (w .last (p - at) (omega arith))
 
-  next : (p : ℕ) → at ≤ p → p < at + k → border p → Next utf16 (targetForm t) s (at + k) a border p
+  next : (p : ℕ) → at ≤ p → p < at + k → border p → Next utf16 G s (at + k) a border p
   unfolding border
   next p h l b = go (isHigh (getD s p 0)) refl
     where
-      go : (x : Bool) → isHigh (getD s p 0) ≡ x → Next utf16 (targetForm t) s (at + k) a border p
+      go : (x : Bool) → isHigh (getD s p 0) ≡ x → Next utf16 G s (at + k) a border p
       go false e =
           let out : 0xD800 ≤ getD s p 0 → 0xE000 ≤ getD s p 0 = λ y. low-false (getD s p 0) (b l) (high-false (getD s p 0) e y) in
           let v = single p h l out in
+          let m : length (encode G (getD s p 0)) ≡ 1 + v .0 = same-unit p h l ∙ v .2 in
           record {
             value = getD s p 0;
             long = 1;
             character = alone s p (omega (arith, w .inside)) (units p) out;
-            held = some (encode (targetForm t) (getD s p 0)) (v .0) (v .2);
+            held = some (encode G (getD s p 0)) (v .0) m;
             within = omega arith;
-            counted = sum-more a p 0 ∙ rw (sum-zero a p, add-zero p) (zero-add (a p) ∙ v .1 ∙ sym (v .2));
+            counted = sum-more a p 0 ∙ rw (sum-zero a p, add-zero p) (zero-add (a p) ∙ v .1 ∙ sym m);
             few = encode-seven t (getD s p 0);
             border = λ y. sym (neighbours p h y) ∙ e;
           }
@@ -84,14 +101,15 @@ module _
           let hi = high-bounds (getD s p 0) e in
           let lo = low-bounds (getD s (p + 1) 0) f in
           let v = pair p h m hi lo in
+          let n : length (encode G (pairValue (getD s p 0) (getD s (p + 1) 0))) ≡ 1 + v .0 = same-pair (getD s p 0) (getD s (p + 1) 0) ∙ v .2 in
           let q : p + 2 ≡ p + 1 + 1 = omega arith in
           record {
             value = pairValue (getD s p 0) (getD s (p + 1) 0);
             long = 2;
             character = paired-at s p (getD s p 0) (getD s (p + 1) 0) (omega (arith, w .inside)) refl refl (hi .0) (hi .1) (lo .0) (lo .1);
-            held = some (encode (targetForm t) (pairValue (getD s p 0) (getD s (p + 1) 0))) (v .0) (v .2);
+            held = some (encode G (pairValue (getD s p 0) (getD s (p + 1) 0))) (v .0) n;
             within = omega arith;
-            counted = sum-more a p 1 ∙ rw (sum-more a p 0, sum-zero a p, add-zero p) (rw (zero-add (a p)) (v .1 ∙ sym (v .2)));
+            counted = sum-more a p 1 ∙ rw (sum-more a p 0, sum-zero a p, add-zero p) (rw (zero-add (a p)) (v .1 ∙ sym n));
             few = encode-seven t (pairValue (getD s p 0) (getD s (p + 1) 0));
             border = λ y. rw q (sym (neighbours (p + 1) (omega arith) (omega arith)) ∙ low-not-high (getD s (p + 1) 0) f);
           }
@@ -100,7 +118,7 @@ module _
           inner (yes y) = y
           inner (no y) = differ e (last-not-high p h (omega arith))
 
-  pub counted-whole : Counted utf16 (targetForm t) s at k (sum a at k)
+  pub counted-whole : Counted utf16 G s at k (sum a at k)
   unfolding border
   counted-whole =
       let e : at + k - at ≡ k = omega arith in
@@ -133,9 +151,9 @@ unit-bytes u h o = go (decLt u 0x80) (decLt u 0x800)
     go (no a) (yes b) = (1, rw (le-leb 0x80 u (omega arith), lt-leb 0x800 u b, not-surrogate u o), ap length (two-bytes u (omega arith) b))
     go (no a) (no b) = (2, rw (le-leb 0x80 u (omega arith), le-leb 0x800 u (omega arith), not-surrogate u o), ap length (three-bytes u (carries-outside Byte.FssUtf u o (omega arith)) (omega arith) h))
 
-pub counted-bytes : (s : List ℕ) (at k : ℕ) → ((i : ℕ) → getD s i 0 < 0x10000) → Whole s at k → Counted utf16 fssUtf s at k (sum (bytesAt s) at k)
-counted-bytes s at k units w =
-    counted-whole FssUtf s at k (bytesAt s) units w (λ p h l o. unit-bytes (getD s p 0) (units p) o)
+pub counted-bytes : (s : List ℕ) (at k : ℕ) → ((i : ℕ) → getD s i 0 < 0x10000) → Whole s at k → NoNonCharacters s at k → Counted utf16 (strictly fssUtf) s at k (sum (bytesAt s) at k)
+counted-bytes s at k units w non =
+    counted-whole FssUtf s at k (bytesAt s) units w non (λ p h l o. unit-bytes (getD s p 0) (units p) o)
     (λ p h l x y. (
       3,
       rw (surrogate-two (getD s p 0) (x .0) (omega (arith, x .1)), surrogate-two (getD s (p + 1) 0) (omega (arith, y .0)) (y .1)),
@@ -208,9 +226,9 @@ pair-ebcdic x y h l = go (decLt x 0xD8C0)
       encode-length Byte.UtfEbcdic (pairValue x y) (carried h l) 4 (omega arith) (omega (arith, h, l)) (omega (arith, h, l)),
     )
 
-pub counted-ebcdic : (s : List ℕ) (at k : ℕ) → ((i : ℕ) → getD s i 0 < 0x10000) → Whole s at k → Counted utf16 utfEbcdic s at k (sum (ebcdicAt s) at k)
-counted-ebcdic s at k units w =
-    counted-whole UtfEbcdic s at k (ebcdicAt s) units w (λ p h l o. unit-ebcdic (getD s p 0) (units p) o) (λ p h l x y. pair-ebcdic (getD s p 0) (getD s (p + 1) 0) x y)
+pub counted-ebcdic : (s : List ℕ) (at k : ℕ) → ((i : ℕ) → getD s i 0 < 0x10000) → Whole s at k → NoNonCharacters s at k → Counted utf16 (strictly utfEbcdic) s at k (sum (ebcdicAt s) at k)
+counted-ebcdic s at k units w non =
+    counted-whole UtfEbcdic s at k (ebcdicAt s) units w non (λ p h l o. unit-ebcdic (getD s p 0) (units p) o) (λ p h l x y. pair-ebcdic (getD s p 0) (getD s (p + 1) 0) x y)
 
 -- UCS-4
 pub values-most : (s : List ℕ) (i : ℕ) → valuesAt s i ≤ 1
@@ -223,9 +241,9 @@ unit-low u o = go (decLt u 0xDC00)
     go (yes h) = rw (lt-leb 0xDC00 u h)
     go (no h) = rw (le-leb 0xDC00 u (omega arith), le-ltb u 0xE000 (o (omega arith)))
 
-pub counted-values : (s : List ℕ) (at k : ℕ) → ((i : ℕ) → getD s i 0 < 0x10000) → Whole s at k → Counted utf16 ucs4 s at k (sum (valuesAt s) at k)
-counted-values s at k units w =
-    counted-whole Ucs4 s at k (valuesAt s) units w
+pub counted-values : (s : List ℕ) (at k : ℕ) → ((i : ℕ) → getD s i 0 < 0x10000) → Whole s at k → NoNonCharacters s at k → Counted utf16 (strictly ucs4) s at k (sum (valuesAt s) at k)
+counted-values s at k units w non =
+    counted-whole Ucs4 s at k (valuesAt s) units w non
     (λ p h l o. (0, rw (unit-low (getD s p 0) o), ap length (ucs4-outside (getD s p 0) o (omega (arith, units p)))))
     (λ p h l x y. (
       0,
@@ -247,9 +265,9 @@ plain-one Utf16 u h = absurd (omega arith)
 plain-one Ucs4 u h = ap length (ucs4-below u (omega arith))
 
 pub counted-plain :
-    (t : Target) (s : List ℕ) (at k m b : ℕ) → ((i : ℕ) → getD s i 0 < 0x10000) → at + k ≤ length s → AtMost s at k m → b ≡ plainOf t → m < b → Counted utf16 (targetForm t) s at k k
+    (t : Target) (s : List ℕ) (at k m b : ℕ) → ((i : ℕ) → getD s i 0 < 0x10000) → at + k ≤ length s → AtMost s at k m → b ≡ plainOf t → m < b → Counted utf16 (strictly (targetForm t)) s at k k
 counted-plain t s at k m b units inside most e h =
-    rw (sum-ones at k) at (counted-whole t s at k (λ i. 1) units whole (λ p x y o. (0, refl, plain-one t (getD s p 0) (bound p x y))) (λ p x y hi lo. absurd (omega (arith, hi, bound p x (omega arith), plain-below t))))
+    rw (sum-ones at k) at (counted-whole t s at k (λ i. 1) units whole (no-non-characters most (omega (arith, e, plain-below t))) (λ p x y o. (0, refl, plain-one t (getD s p 0) (bound p x y))) (λ p x y hi lo. absurd (omega (arith, hi, bound p x (omega arith), plain-below t))))
   where
     bound : (p : ℕ) → at ≤ p → p < at + k → getD s p 0 < plainOf t
     bound p x y =

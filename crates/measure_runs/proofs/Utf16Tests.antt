@@ -11,7 +11,7 @@ use borrow.Author.Count.{below-none, below-more}
 use Rattle.laws.proofs.Table.{and-left, and-right}
 use Rattle.laws.proofs.Values.{neither-left, neither-right, and-false}
 use Rattle.forms.specs.Forms.{isSurrogate}
-use Rattle.laws.proofs.Blocks.{NoSurrogates}
+use Rattle.laws.proofs.Blocks.{NoneOf}
 use Rattle.laws.proofs.Carried.{outside}
 use Rattle.measure_runs.specs.Utf16Units.{isHigh, isLow, Paired, Whole}
 
@@ -78,22 +78,27 @@ paired-more {bad} {x} {y} {s} {at} {k} p a b =
 pub paired-end : {bad : Bool} {s : List ℕ} {at k c : ℕ} → PairedUnless bad s at k → c ≤ k → bad ≡ false → Paired s at (c + 1)
 paired-end p h e = record { each = λ j b. p .each e j (omega arith) }
 
--- the loop over surrogates
-pub record PlainUnless (some : Bool) (s : List ℕ) (at k : ℕ) : Type 0 where
-  pub each : some ≡ false → (j : ℕ) → j < k → isSurrogate (getD s (at + j) 0) ≡ false
+-- a loop that looks for units which pass a test
+pub record NoneUnless (test : ℕ → Bool) (some : Bool) (s : List ℕ) (at k : ℕ) : Type 0 where
+  pub each : some ≡ false → (j : ℕ) → j < k → test (getD s (at + j) 0) ≡ false
 
-pub plain-none : {some : Bool} {s : List ℕ} {at : ℕ} → PlainUnless some s at 0
-plain-none {some} {s} {at} = record { each = λ e. below-none (λ (j : ℕ). isSurrogate (getD s (at + j) 0) ≡ false) }
+module _ {test : ℕ → Bool} {some : Bool} {s : List ℕ} {at : ℕ} where
+  pub none-begin : NoneUnless test some s at 0
+  none-begin = record { each = λ e. below-none (λ (j : ℕ). test (getD s (at + j) 0) ≡ false) }
 
-pub plain-more : {some x : Bool} {s : List ℕ} {at k : ℕ} → PlainUnless some s at k → x ≡ isSurrogate (getD s (at + k) 0) → PlainUnless (some || x) s at (k + 1)
-plain-more {some} {x} {s} {at} {k} p a =
-    record {
-      each =
-          λ e. below-more (λ (j : ℕ). isSurrogate (getD s (at + j) 0) ≡ false) k (p .each (neither-left some x e)) (sym a ∙ neither-right some x e);
-    }
+  pub none-more : {x : Bool} {k : ℕ} → NoneUnless test some s at k → x ≡ test (getD s (at + k) 0) → NoneUnless test (some || x) s at (k + 1)
+  none-more {x} {k} p a =
+      record {
+        each =
+            λ e. below-more (λ (j : ℕ). test (getD s (at + j) 0) ≡ false) k (p .each (neither-left some x e)) (sym a ∙ neither-right some x e);
+      }
 
-pub plain-end : {some : Bool} {s : List ℕ} {at k c : ℕ} → PlainUnless some s at k → c ≤ k → some ≡ false → NoSurrogates s at c
-plain-end p h e = record { each = λ j b. p .each e j (omega arith) }
+  pub none-end : {k c : ℕ} → NoneUnless test some s at k → c ≤ k → some ≡ false → NoneOf test s at c
+  none-end p h e = record { each = λ j b. p .each e j (omega arith) }
+
+-- fewer units of a block
+pub none-fewer : {test : ℕ → Bool} {s : List ℕ} {at k c : ℕ} → NoneOf test s at k → c ≤ k → NoneOf test s at c
+none-fewer n h = record { each = λ j b. n .each j (omega arith) }
 
 -- whole characters: a block that ends with no high unit, or all of it but a high unit at its end
 module _ {s : List ℕ} {at c n : ℕ} (inside : at + c ≤ length s) (p : Paired s at n) (few : c ≤ n) (some : 0 < c) (first : isLow (getD s at 0) ≡ false) where

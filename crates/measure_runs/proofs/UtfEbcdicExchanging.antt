@@ -6,7 +6,7 @@ use native.Mathlib.Omega.{arith}
 use lib.ListN.{length, getD}
 use Rattle.forms.specs.Form.{Form, span, encode}
 use Rattle.forms.specs.Exchange.{i8Of}
-use Rattle.forms.specs.Forms.{utfEbcdic}
+use Rattle.forms.specs.Forms.{utfEbcdic, strictly}
 use Rattle.laws.proofs.Blocks.{AtMost, Held, Copied}
 use Rattle.laws.proofs.Carried.{free-below}
 use Rattle.laws.proofs.Progress.{CharacterAt}
@@ -29,7 +29,7 @@ module _ (s : List ℕ) (p : ℕ) where
       (free-below (i8Of (getD s p 0)) (omega arith))
       .character (λ z. omega (arith, z))
 
-pub ascii-counted : (t : Target) {s : List ℕ} {at k : ℕ} → at + k ≤ length s → AtMost (map i8Of s) at k 127 → Counted utfEbcdic (targetForm t) s at k k
+pub ascii-counted : (t : Target) {s : List ℕ} {at k : ℕ} → at + k ≤ length s → AtMost (map i8Of s) at k 127 → Counted utfEbcdic (strictly (targetForm t)) s at k k
 ascii-counted t {s} {at} {k} h a =
     counted-units k (omega arith)
     (λ j i.

@@ -19,7 +19,7 @@ use Rattle.laws.proofs.Moved.{counted-moved}
 use Rattle.laws.proofs.Table.{and-left, and-right}
 use Rattle.laws.proofs.Values.{neither-left as or-left, neither-right as or-right, and-false}
 use Rattle.measure_runs.specs.declared.fss_utf_validation.Weights.{Weights}
-use Rattle.measure_runs.specs.Validation.{isTrailingByte, asksTrailing, noByte, noSecond, illFormed, illFormedAt, Validated, added, addedAt, value2, value3, value4, LeadWeights, Weighs, Weighed, Whole, Padded}
+use Rattle.measure_runs.specs.Validation.{isTrailingByte, asksTrailing, noByte, noSecond, noThird, illFormed, illFormedAt, Validated, added, addedAt, value2, value3, value4, LeadWeights, Weighs, Weighed, Whole, Padded}
 use Rattle.measure_runs.proofs.Validating.{zeros-add}
 
 same : (a b : Bool) → not (Bool·beq a b) ≡ false → a ≡ b
@@ -45,13 +45,16 @@ record Right (p3 p2 p1 b : ℕ) : Type 0 where
   pub ed : p1 ≡ 0xED → b < 0xA0
   pub f0 : p1 ≡ 0xF0 → 0x90 ≤ b
   pub f4 : p1 ≡ 0xF4 → b < 0x90
+  pub ef : p2 ≡ 0xEF → p1 ≡ 0xBF → b < 0xBE
 
 right : (p3 p2 p1 b : ℕ) → illFormed p3 p2 p1 b ≡ false → Right p3 p2 p1 b
 unfolding illFormed
 right p3 p2 p1 b h =
     let m = not (Bool·beq (asksTrailing p3 p2 p1) (isTrailingByte b)) in
-    let l : noSecond p1 b ≡ false = or-right (m || noByte b) (noSecond p1 b) h in
-    let h1 : (m || noByte b) ≡ false = or-left (m || noByte b) (noSecond p1 b) h in
+    let t : noThird p2 p1 b ≡ false = or-right (m || noByte b || noSecond p1 b) (noThird p2 p1 b) h in
+    let h2 : (m || noByte b || noSecond p1 b) ≡ false = or-left (m || noByte b || noSecond p1 b) (noThird p2 p1 b) h in
+    let l : noSecond p1 b ≡ false = or-right (m || noByte b) (noSecond p1 b) h2 in
+    let h1 : (m || noByte b) ≡ false = or-left (m || noByte b) (noSecond p1 b) h2 in
     let o : noByte b ≡ false = or-right m (noByte b) h1 in
     let o1 : (eqb b 0xC0 || eqb b 0xC1) ≡ false = or-left (eqb b 0xC0 || eqb b 0xC1) (leb 0xF5 b) o in
     let A = eqb p1 0xE0 && ltb b 0xA0 in
@@ -69,6 +72,7 @@ right p3 p2 p1 b h =
       ed = λ e. leb-false 0xA0 b (and-false (eqb p1 0xED) (leb 0xA0 b) (or-right A B l2) (eq-eqb p1 0xED e));
       f0 = λ e. ltb-false b 0x90 (and-false (eqb p1 0xF0) (ltb b 0x90) (or-right (A || B) C l1) (eq-eqb p1 0xF0 e));
       f4 = λ e. leb-false 0x90 b (and-false (eqb p1 0xF4) (leb 0x90 b) (or-right (A || B || C) D l) (eq-eqb p1 0xF4 e));
+      ef = λ e f. leb-false 0xBE b (and-false (eqb p2 0xEF && eqb p1 0xBF) (leb 0xBE b) t (rw (eq-eqb p2 0xEF e, eq-eqb p1 0xBF f)));
     }
 
 -- a trailing byte
@@ -208,7 +212,7 @@ module _ (w : Weights) (G : Form) (weighs : Weighs w G) (s : List ℕ) (from e :
         let k2 = before (at + 2) (omega arith) c in
         let u = least b (decLt A 0xE1) in
         let o = range b c (decLt A 0xED) (decLt A 0xEE) in
-        let n = ⊎-elim (λ h. weighs .low (value3 A B C) h) (λ h. weighs .high (value3 A B C) (h .0) (h .1)) o in
+        let n = ⊎-elim (λ h. weighs .low (value3 A B C) h) (λ h. weighs .high (value3 A B C) (h .0) (h .1) (λ g. pass b c k1 g (decLt A 0xEF) (decLt B 0xBF))) o in
         record {
           value = value3 A B C;
           long = 3;
@@ -228,6 +232,12 @@ module _ (w : Weights) (G : Form) (weighs : Weighs w G) (s : List ℕ) (from e :
         least : Trails B → Dec (A < 0xE1) → 0x800 ≤ value3 A B C
         least b (yes d) = let z : A ≡ 0xE0 = omega arith in omega (arith, r1 .e0 z)
         least b (no d) = omega arith
+
+        -- neither FFFE nor FFFF
+        pass : Trails B → Trails C → at + 1 < e → 0xFFFE ≤ value3 A B C → Dec (A < 0xEF) → Dec (B < 0xBF) → 0x10000 ≤ value3 A B C
+        pass b c k g (yes d) f = absurd (omega (arith, b, c))
+        pass b c k g (no d) (yes f) = absurd (omega (arith, b, c))
+        pass b c k g (no d) (no f) = absurd (let x : A ≡ 0xEF = omega arith in let z : B ≡ 0xBF = omega (arith, b) in omega (arith, r2 k .ef x z, b, c))
 
         range : Trails B → Trails C → Dec (A < 0xED) → Dec (A < 0xEE) → (value3 A B C < 0xD800) ⊎ ((0xE000 ≤ value3 A B C) × (value3 A B C < 0x110000))
         range b c (yes d) f = inl (omega (arith, b, c))
@@ -251,7 +261,7 @@ module _ (w : Weights) (G : Form) (weighs : Weighs w G) (s : List ℕ) (from e :
               read-units (byteLayout 6 6) refl s at (B ∷ C ∷ D ∷ []) (drop (at + 4) s) (value4 A B C D) (omega arith) (behind-three s at (omega arith))
               ((b .0, omega (arith, b .1)), ((c .0, omega (arith, c .1)), ((d .0, omega (arith, d .1)), tt))) (omega arith) (omega arith) (omega (arith, r0 .f5)) (omega arith) u
               (free-above (value4 A B C D) (omega (arith, u)));
-          held = weighs .high (value4 A B C D) (omega (arith, u)) m;
+          held = weighs .high (value4 A B C D) (omega (arith, u)) m (λ g. u);
           within = omega arith;
           counted =
               sum-four (addedAt w s) at

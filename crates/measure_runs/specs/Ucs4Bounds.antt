@@ -1,9 +1,14 @@
--- How many units values have, by the bounds that they reach: what the inner functions count.
+-- Values that strict conversion writes in no form, and how many units the others have, by the bounds that they reach: what the inner functions test
+-- and count.
 use Prim.Native.Nat.{ℕ, _+_}
-use mathlib.Core.Bool.{Bool, true, false}
+use mathlib.Core.Bool.{Bool, true, false, _||_}
 use mathlib.Core.List.{List}
 use lib.Dec.{leb}
 use lib.ListN.{getD}
+use Rattle.forms.specs.Forms.{isSurrogate, isNonCharacter}
+
+abbrev pub isExcluded : ℕ → Bool
+isExcluded v = isSurrogate v || isNonCharacter v
 
 abbrev pub number : Bool → ℕ
 number true = 1

@@ -1,5 +1,5 @@
 -- Well-formed FSS-UTF told by a window of four bytes: inner, for the blocks that a measure takes at once. It knows the sequences of one to
--- four bytes whose values UTF-16 holds; a block with any other is left to the item reader.
+-- four bytes whose values strict conversion writes in UTF-16; a block with any other is left to the item reader.
 use Prim.Native.Nat.{ℕ, _+_, _*_, _-_, _≤_, _<_}
 use mathlib.Core.Path.{_≡_}
 use mathlib.Core.Logic.{_≢_}
@@ -28,8 +28,12 @@ noByte b = eqb b 0xC0 || eqb b 0xC1 || leb 0xF5 b
 abbrev pub noSecond : ℕ → ℕ → Bool
 noSecond p b = eqb p 0xE0 && ltb b 0xA0 || eqb p 0xED && leb 0xA0 b || eqb p 0xF0 && ltb b 0x90 || eqb p 0xF4 && leb 0x90 b
 
+-- a third byte that makes the value FFFE or FFFF
+abbrev pub noThird : ℕ → ℕ → ℕ → Bool
+noThird q p b = eqb q 0xEF && eqb p 0xBF && leb 0xBE b
+
 unfoldable pub illFormed : ℕ → ℕ → ℕ → ℕ → Bool
-illFormed p3 p2 p1 b = not (Bool·beq (asksTrailing p3 p2 p1) (isTrailingByte b)) || noByte b || noSecond p1 b
+illFormed p3 p2 p1 b = not (Bool·beq (asksTrailing p3 p2 p1) (isTrailingByte b)) || noByte b || noSecond p1 b || noThird p2 p1 b
 
 abbrev pub illFormedAt : List ℕ → ℕ → Bool
 illFormedAt s i = illFormed (getD s (i - 3) 0) (getD s (i - 2) 0) (getD s (i - 1) 0) (getD s i 0)
@@ -90,7 +94,7 @@ value4 a b c d = (((a - 0xF0) * 64 + (b - 0x80)) * 64 + (c - 0x80)) * 64 + (d - 
 -- what the weights of a target have to satisfy: the target holds every value that is told here, and they add up to its units
 pub record Weighs (w : Weights) (G : Form) : Type 0 where
   pub low : (v : ℕ) → v < 0xD800 → encode G v ≢ []
-  pub high : (v : ℕ) → 0xE000 ≤ v → v < 0x110000 → encode G v ≢ []
+  pub high : (v : ℕ) → 0xE000 ≤ v → v < 0x110000 → (0xFFFE ≤ v → 0x10000 ≤ v) → encode G v ≢ []
   pub few : (v : ℕ) → length (encode G v) ≤ 7
   pub one : (p b : ℕ) → b < 0x80 → added w p b ≡ length (encode G b)
   pub two : (p a b : ℕ) → 0xC2 ≤ a → a < 0xE0 → 0x80 ≤ b → b < 0xC0 → added w p a + added w a b ≡ length (encode G (value2 a b))

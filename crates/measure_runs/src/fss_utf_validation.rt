@@ -17,7 +17,8 @@ fn ill_formed(p3: u8, p2: u8, p1: u8, byte: u8) -> bool
         | (p1 == 0xED) & (byte >= 0xA0)
         | (p1 == 0xF0) & (byte < 0x90)
         | (p1 == 0xF4) & (byte >= 0x90);
-    (asks != trails) | no_byte | no_second
+    let no_third = (p2 == 0xEF) & (p1 == 0xBF) & (byte >= 0xBE);
+    (asks != trails) | no_byte | no_second | no_third
 }
 
 pub fn ill_formed64(src: &[u8], at: usize) -> bool

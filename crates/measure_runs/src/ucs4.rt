@@ -4,14 +4,14 @@ use tables::ByteForm;
 use types::Run;
 ghost use mathlib.Core.Path.{_≡_};
 ghost use mathlib.Core.Bool.{false};
-ghost use Prim.Native.Nat.{_+_, _≤_};
+ghost use Prim.Native.Nat.{_+_, _<_, _≤_};
 ghost use lib.ListN.{length};
-ghost use Rattle.forms.specs.Forms.{ucs4, utf16};
+ghost use Rattle.forms.specs.Forms.{ucs4, utf16, strictly};
 ghost use Rattle.tables.specs.ByteForms.{byteForm};
 ghost use Rattle.encoder.specs.Target.{targetForm};
-ghost use Rattle.laws.proofs.Blocks.{AtMost, NoSurrogates};
+ghost use Rattle.laws.proofs.Blocks.{AtMost, NoneOf};
 ghost use Rattle.laws.proofs.Runs.{Counted, sum};
-ghost use Rattle.measure_runs.specs.Ucs4Bounds.{number, reachedAt};
+ghost use Rattle.measure_runs.specs.Ucs4Bounds.{number, reachedAt, isExcluded};
 
 fn number(test: bool) -> u32
     ensures { λ r. ⌜ (r ≡ number test) × (r ≤ 1) ⌝ }
@@ -40,10 +40,17 @@ fn reached(first: u32, second: u32, third: u32, src: &[u32], at: usize, count: u
     sum
 }
 
-// Whether a unit of a block is a surrogate value: most blocks do not reach so far.
-fn surrogates(src: &[u32], at: usize, count: usize, most: u32) -> bool
+// Whether strict conversion writes a value in no form.
+fn is_excluded(value: u32) -> bool
+    ensures { λ r. ⌜ r ≡ isExcluded value ⌝ }
+{
+    items::is_surrogate(value) | encoder::is_non_character(value)
+}
+
+// Whether a unit of a block is such a value: most blocks do not reach so far.
+fn excluded(src: &[u32], at: usize, count: usize, most: u32) -> bool
     requires { ⌜ (at + count ≤ length (now src)) × AtMost (now src) at count most ⌝ }
-    ensures { λ r. ⌜ (r ≡ false → NoSurrogates (now (src .entry)) at count) ⌝ }
+    ensures { λ r. ⌜ (r ≡ false → NoneOf isExcluded (now (src .entry)) at count) ⌝ }
 {
     if most < 0xD800 {
         return false;
@@ -51,26 +58,22 @@ fn surrogates(src: &[u32], at: usize, count: usize, most: u32) -> bool
     let mut some = false;
     let mut k: usize = 0;
     while k < count {
-        some = some | items::is_surrogate(src[at + k]);
+        some = some | is_excluded(src[at + k]);
         k += 1;
     }
     some
 }
 
-// The bytes of a block, or 0 where one of its units is no character.
-fn byte_block(form: ByteForm, src: &[u32], at: usize, count: usize) -> usize
-    requires { ⌜ (count ≤ 32) × (at + count ≤ length (now src)) ⌝ }
-    ensures { λ r. ⌜ ((r ≡ 0 → ⊥) → Counted ucs4 (byteForm form) (now (src .entry)) at count r) ⌝ }
+// The bytes of a block, or 0 where one of its units is not written.
+fn byte_block(form: ByteForm, src: &[u32], at: usize, count: usize, most: u32) -> usize
+    requires { ⌜ (count ≤ 32) × (at + count ≤ length (now src)) × AtMost (now src) at count most × (most < 0x110000) ⌝ }
+    ensures { λ r. ⌜ ((r ≡ 0 → ⊥) → Counted ucs4 (strictly (byteForm form)) (now (src .entry)) at count r) ⌝ }
 {
-    let most = encoder::value_bounds::joined(src, at, count);
     let two = tables::lowest(form, 1);
     if most < two {
         return count;
     }
-    if 0x80000000 <= most {
-        return 0;
-    }
-    if surrogates(src, at, count, most) {
+    if excluded(src, at, count, most) {
         return 0;
     }
     let few = reached(
@@ -96,17 +99,17 @@ fn byte_block(form: ByteForm, src: &[u32], at: usize, count: usize) -> usize
     count + wide(few) + wide(more)
 }
 
-// The UTF-16 units of a block, or 0 where it has a value that UTF-16 does not hold.
-fn utf16_block(src: &[u32], at: usize, count: usize) -> usize
-    requires { ⌜ (count ≤ 32) × (at + count ≤ length (now src)) ⌝ }
-    ensures { λ r. ⌜ ((r ≡ 0 → ⊥) → Counted ucs4 utf16 (now (src .entry)) at count r) ⌝ }
+// The UTF-16 units of a block, or 0 where one of its units is not written.
+fn utf16_block(src: &[u32], at: usize, count: usize, most: u32) -> usize
+    requires { ⌜ (count ≤ 32) × (at + count ≤ length (now src)) × AtMost (now src) at count most × (most < 0x110000) ⌝ }
+    ensures { λ r. ⌜ ((r ≡ 0 → ⊥) → Counted ucs4 (strictly utf16) (now (src .entry)) at count r) ⌝ }
 {
     let mut bad = false;
     let mut sum: u32 = 0;
     let mut k: usize = 0;
     while k < count {
         let unit = src[at + k];
-        bad = bad | items::is_surrogate(unit) | (unit >= 0x110000);
+        bad = bad | is_excluded(unit);
         sum += 1 + number(unit >= 0x10000);
         k += 1;
     }
@@ -117,24 +120,28 @@ fn utf16_block(src: &[u32], at: usize, count: usize) -> usize
 }
 
 // The same, looking first whether all units lie below the surrogates, as most do.
-fn utf16_units(src: &[u32], at: usize, count: usize) -> usize
-    requires { ⌜ (count ≤ 32) × (at + count ≤ length (now src)) ⌝ }
-    ensures { λ r. ⌜ ((r ≡ 0 → ⊥) → Counted ucs4 utf16 (now (src .entry)) at count r) ⌝ }
+fn utf16_units(src: &[u32], at: usize, count: usize, most: u32) -> usize
+    requires { ⌜ (count ≤ 32) × (at + count ≤ length (now src)) × AtMost (now src) at count most × (most < 0x110000) ⌝ }
+    ensures { λ r. ⌜ ((r ≡ 0 → ⊥) → Counted ucs4 (strictly utf16) (now (src .entry)) at count r) ⌝ }
 {
-    if encoder::value_bounds::joined(src, at, count) < 0xD800 {
+    if most < 0xD800 {
         return count;
     }
-    utf16_block(src, at, count)
+    utf16_block(src, at, count, most)
 }
 
-fn block(target: Target, src: &[u32], at: usize, count: usize) -> usize
-    requires { ⌜ (count ≤ 32) × (at + count ≤ length (now src)) ⌝ }
-    ensures { λ r. ⌜ ((r ≡ 0 → ⊥) → Counted ucs4 (targetForm target) (now (src .entry)) at count r) ⌝ }
+// The units of a block in the target, or 0. One that may reach 110000 is left to the item reader.
+fn block(target: Target, src: &[u32], at: usize, count: usize, most: u32) -> usize
+    requires { ⌜ (count ≤ 32) × (at + count ≤ length (now src)) × AtMost (now src) at count most ⌝ }
+    ensures { λ r. ⌜ ((r ≡ 0 → ⊥) → Counted ucs4 (strictly (targetForm target)) (now (src .entry)) at count r) ⌝ }
 {
+    if 0x110000 <= most {
+        return 0;
+    }
     match target {
-        Target::FssUtf => byte_block(ByteForm::FssUtf, src, at, count),
-        Target::UtfEbcdic => byte_block(ByteForm::UtfEbcdic, src, at, count),
-        Target::Utf16 => utf16_units(src, at, count),
+        Target::FssUtf => byte_block(ByteForm::FssUtf, src, at, count, most),
+        Target::UtfEbcdic => byte_block(ByteForm::UtfEbcdic, src, at, count, most),
+        Target::Utf16 => utf16_units(src, at, count, most),
         Target::Ucs4 => 0,
     }
 }
@@ -142,12 +149,13 @@ fn block(target: Target, src: &[u32], at: usize, count: usize) -> usize
 // The blocks from an offset on, up to one with a fault.
 pub fn count(target: Target, src: &[u32], at: usize) -> Run
     requires { ⌜ (at ≤ length (now src)) × (length (now src) ≤ 65536) ⌝ }
-    ensures { λ r. ⌜ Counted ucs4 (targetForm target) (now (src .entry)) at (r .length) (r .units) ⌝ }
+    ensures { λ r. ⌜ Counted ucs4 (strictly (targetForm target)) (now (src .entry)) at (r .length) (r .units) ⌝ }
 {
     let mut length: usize = 0;
     let mut units: usize = 0;
     while 32 <= src.len() - at - length {
-        let more = block(target, src, at + length, 32);
+        let most = encoder::value_bounds::joined(src, at + length, 32);
+        let more = block(target, src, at + length, 32, most);
         if more == 0 {
             return Run {
                 length: length,
@@ -158,7 +166,8 @@ pub fn count(target: Target, src: &[u32], at: usize) -> Run
         units += more;
     }
     let rest = src.len() - at - length;
-    let more = block(target, src, at + length, rest);
+    let most = encoder::value_bounds::joined(src, at + length, rest);
+    let more = block(target, src, at + length, rest, most);
     if more == 0 {
         return Run {
             length: length,

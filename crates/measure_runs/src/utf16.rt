@@ -4,8 +4,9 @@ use types::Run;
 ghost use mathlib.Core.Path.{_≡_};
 ghost use Prim.Native.Nat.{_+_, _<_, _≤_};
 ghost use lib.ListN.{length};
-ghost use Rattle.forms.specs.Forms.{utf16};
+ghost use Rattle.forms.specs.Forms.{utf16, strictly};
 ghost use Rattle.encoder.specs.Target.{targetForm};
+ghost use Rattle.laws.proofs.Blocks.{NoNonCharacters};
 ghost use Rattle.laws.proofs.Runs.{Counted, sum};
 ghost use Rattle.measure_runs.specs.Utf16Units.{number, bytesAt, ebcdicAt, valuesAt, plainOf, Whole};
 
@@ -82,10 +83,10 @@ fn plain(target: Target) -> u16
     }
 }
 
-// Whole characters. UTF-16 is no target.
+// Whole characters, none of them FFFE or FFFF. UTF-16 is no target.
 fn whole(target: Target, src: &[u16], at: usize, count: usize) -> Run
-    requires { ⌜ (count ≤ 128) × (Whole (now src) at count) ⌝ }
-    ensures { λ r. ⌜ Counted utf16 (targetForm target) (now (src .entry)) at (r .length) (r .units) ⌝ }
+    requires { ⌜ (count ≤ 128) × (Whole (now src) at count) × NoNonCharacters (now src) at count ⌝ }
+    ensures { λ r. ⌜ Counted utf16 (strictly (targetForm target)) (now (src .entry)) at (r .length) (r .units) ⌝ }
 {
     match target {
         Target::FssUtf => Run {
@@ -107,12 +108,13 @@ fn whole(target: Target, src: &[u16], at: usize, count: usize) -> Run
     }
 }
 
-// A block, of which so many neighbours are looked at: nothing where one is unpaired. A high unit at its end is left for the next block.
+// A block, of which so many neighbours are looked at: nothing where one is unpaired, or a unit FFFE or FFFF. A high unit at its end is left for the next block.
 fn block(target: Target, src: &[u16], at: usize, count: usize, pairs: usize) -> Run
     requires { ⌜ (0 < count) × (count ≤ 128) × (count ≤ pairs + 1) × (at + count ≤ length (now src)) × (at + pairs < length (now src)) ⌝ }
-    ensures { λ r. ⌜ Counted utf16 (targetForm target) (now (src .entry)) at (r .length) (r .units) ⌝ }
+    ensures { λ r. ⌜ Counted utf16 (strictly (targetForm target)) (now (src .entry)) at (r .length) (r .units) ⌝ }
 {
-    if crate::utf16_blocks::joined(src, at, count) < plain(target) {
+    let most = crate::utf16_blocks::joined(src, at, count);
+    if most < plain(target) {
         return Run {
             length: count,
             units: count,
@@ -130,6 +132,12 @@ fn block(target: Target, src: &[u16], at: usize, count: usize, pairs: usize) -> 
             units: 0,
         };
     }
+    if crate::utf16_blocks::non_characters(src, at, count, most) {
+        return Run {
+            length: 0,
+            units: 0,
+        };
+    }
     let last = count - 1;
     if crate::utf16_blocks::high(src[at + last]) {
         return whole(target, src, at, last);
@@ -140,7 +148,7 @@ fn block(target: Target, src: &[u16], at: usize, count: usize, pairs: usize) -> 
 // The blocks from an offset on, up to one with a fault.
 pub fn count(target: Target, src: &[u16], at: usize) -> Run
     requires { ⌜ (at ≤ length (now src)) × (length (now src) ≤ 65536) ⌝ }
-    ensures { λ r. ⌜ Counted utf16 (targetForm target) (now (src .entry)) at (r .length) (r .units) ⌝ }
+    ensures { λ r. ⌜ Counted utf16 (strictly (targetForm target)) (now (src .entry)) at (r .length) (r .units) ⌝ }
 {
     let mut length: usize = 0;
     let mut units: usize = 0;

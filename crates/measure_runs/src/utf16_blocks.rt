@@ -4,8 +4,8 @@ ghost use mathlib.Core.Path.{_≡_};
 ghost use mathlib.Core.Bool.{false};
 ghost use Prim.Native.Nat.{_+_, _<_, _≤_};
 ghost use lib.ListN.{length};
-ghost use Rattle.forms.specs.Forms.{isSurrogate};
-ghost use Rattle.laws.proofs.Blocks.{AtMost, NoSurrogates};
+ghost use Rattle.forms.specs.Forms.{isSurrogate, isNonCharacter};
+ghost use Rattle.laws.proofs.Blocks.{AtMost, NoSurrogates, NoNonCharacters};
 ghost use Rattle.measure_runs.specs.Utf16Units.{isHigh, isLow, Paired};
 
 pub fn high(unit: u16) -> bool
@@ -24,6 +24,12 @@ pub fn surrogate(unit: u16) -> bool
     ensures { λ r. ⌜ r ≡ isSurrogate unit ⌝ }
 {
     (unit >= 0xD800) & (unit <= 0xDFFF)
+}
+
+fn non_character(unit: u16) -> bool
+    ensures { λ r. ⌜ r ≡ isNonCharacter unit ⌝ }
+{
+    (unit >= 0xFFFE) & (unit <= 0xFFFF)
 }
 
 // The units joined by OR: none of them exceeds it.
@@ -52,6 +58,23 @@ pub fn unpaired(src: &[u16], at: usize, pairs: usize) -> bool
         k += 1;
     }
     bad
+}
+
+// Whether one of the units is FFFE or FFFF: most blocks do not reach so far.
+pub fn non_characters(src: &[u16], at: usize, count: usize, most: u16) -> bool
+    requires { ⌜ (at + count ≤ length (now src)) × AtMost (now src) at count most ⌝ }
+    ensures { λ r. ⌜ (r ≡ false → NoNonCharacters (now (src .entry)) at count) ⌝ }
+{
+    if most < 0xFFFE {
+        return false;
+    }
+    let mut some = false;
+    let mut k: usize = 0;
+    while k < count {
+        some = some | non_character(src[at + k]);
+        k += 1;
+    }
+    some
 }
 
 pub fn surrogates(src: &[u16], at: usize, count: usize) -> bool

@@ -4,12 +4,12 @@ use native.Mathlib.Omega.{arith}
 use borrow.Author.Needs.{needs}
 use lib.ListN.{length}
 use denote.Ref.{now}
-use Rattle.forms.specs.Forms.{ucs4}
+use Rattle.forms.specs.Forms.{ucs4, turnedAway}
 use Rattle.laws.proofs.FourForms.{ucs4-laws}
 use Rattle.forms.specs.Conversion.{refusalAt}
 use Rattle.laws.proofs.Progress.{CharacterAt, character-at, mark-at, character-value, character-onward}
 use Rattle.encoder.specs.Target.{targetForm}
-use Rattle.encoder.proofs.Targets.{encode-seven}
+use Rattle.encoder.proofs.Targets.{encode-seven, refused-by}
 use Rattle.laws.proofs.Measuring.{Measuring, measuring-begin, measuring-over, measuring-end, measuring-mark, measuring-unheld, measuring-more, measuring-run}
 use Rattle.measure.proofs.from_ucs4.measure.Statement.{statement}
 use Rattle.measure.proofs.from_ucs4.measure.Tie as tie
@@ -87,7 +87,7 @@ refusal-requires c κs = search needs
 returns-2 : tie.Need-returns-2 Inv-loop μ-loop
 returns-2 c =
     let i = c .before .before .before in
-    measuring-mark (i .before .before .before .before .loop .inv) (mark-at (i .before .before .before .loop-test .taken) (i .item-at .ensures) (c .before .enum-told .given .1)) (c .refusal .ensures ∙ ap refusalAt (c .before .enum-told .given .1))
+    measuring-mark (i .before .before .before .before .loop .inv) (mark-at (i .before .before .before .loop-test .taken) (i .item-at .ensures) (c .before .enum-told .given .1)) (c .refusal .ensures ∙ ap (refusalAt turnedAway) (c .before .enum-told .given .1))
 
 encoded-length-requires : tie.Need-encoded-length-requires Inv-loop μ-loop
 encoded-length-requires c κs = character-value ucs4-laws (read (c .before))
@@ -98,7 +98,8 @@ refusal-requires-2 c κs = search needs
 returns-3 : tie.Need-returns-3 Inv-loop μ-loop
 returns-3 e =
     let c = e .before .before .before .before in
-    measuring-unheld (loop c .loop .inv) (read c) (e .before .before .encoded-length .ensures) (e .before .if3 .taken) (e .refusal2 .ensures)
+    measuring-unheld (loop c .loop .inv) (read c) (e .before .before .encoded-length .ensures) (e .before .if3 .taken)
+    (refused-by (start c .args .target) ucs4-laws (read c) (e .refusal2 .ensures))
 
 add-units-2 : tie.Need-add-units-2 Inv-loop μ-loop
 add-units-2 c = omega (arith, turned c .small, turned c .progress .within, turned c .short)

@@ -1,5 +1,5 @@
 use Rattle.laws.proofs.Runs.{counted-none}
-use Rattle.measure_runs.proofs.TargetWeights.{utf16-weighs, ucs4-weighs, utfEbcdic-weighs}
+use Rattle.measure_runs.proofs.TargetWeights.{utf16-strict-weighs, ucs4-strict-weighs, utfEbcdic-strict-weighs}
 use borrow.Author.Needs.{needs}
 use native.Mathlib.Omega.{arith}
 use Rattle.measure_runs.proofs.fss_utf.weighed.Statement.{statement}
@@ -30,13 +30,13 @@ returns : tie.Need-returns
 returns c = counted-none (omega (arith, c .before .before .before .pre .0))
 
 returns-2 : tie.Need-returns-2
-returns-2 c = rw (c .before .enum-told2 .given .1) (c .valid .ensures .counts _ utfEbcdic-weighs)
+returns-2 c = rw (c .before .enum-told2 .given .1) (c .valid .ensures .counts _ utfEbcdic-strict-weighs)
 
 returns-3 : tie.Need-returns-3
-returns-3 c = rw (c .before .enum-told3 .given .1) (c .valid2 .ensures .counts _ utf16-weighs)
+returns-3 c = rw (c .before .enum-told3 .given .1) (c .valid2 .ensures .counts _ utf16-strict-weighs)
 
 returns-4 : tie.Need-returns-4
-returns-4 c = rw (c .before .enum-told4 .given .1) (c .valid3 .ensures .counts _ ucs4-weighs)
+returns-4 c = rw (c .before .enum-told4 .given .1) (c .valid3 .ensures .counts _ ucs4-strict-weighs)
 
 pub weighed-spec : {M : Type 1} → statement M
 weighed-spec =

@@ -3,17 +3,18 @@ use mathlib.Core.Path.{_≡_, refl, sym}
 use native.Mathlib.Omega.{arith}
 use denote.Ref.{now}
 use Rattle.laws.proofs.Runs.{sum as total, sum-zero, sum-more, sum-most}
-use Rattle.measure_runs.specs.Ucs4Bounds.{unitsAt}
-use Rattle.measure_runs.proofs.Ucs4Counting.{units-most, Clean, clean-none, clean-more, counted-utf16}
+use Rattle.measure_runs.specs.Ucs4Bounds.{isExcluded, unitsAt}
+use Rattle.measure_runs.proofs.Ucs4Counting.{units-most, counted-utf16}
+use Rattle.measure_runs.proofs.Utf16Tests.{NoneUnless, none-begin, none-more, none-end}
 use borrow.Author.Needs.{needs}
 use Rattle.measure_runs.proofs.ucs4.utf16_block.Statement.{statement}
 use Rattle.measure_runs.proofs.ucs4.utf16_block.Tie as tie
 
 abbrev Inv-loop : tie.InvT-loop
-Inv-loop src at count bad₀ sum₀ k₀ bad sum k = (k ≤ count) × (sum ≡ total (unitsAt src) at k) × Clean src at k bad
+Inv-loop src at count most bad₀ sum₀ k₀ bad sum k = (k ≤ count) × (sum ≡ total (unitsAt src) at k) × NoneUnless isExcluded bad src at k
 
 abbrev μ-loop : tie.MeasureT-loop
-μ-loop src at count bad₀ sum₀ k₀ bad sum k = count - k
+μ-loop src at count most bad₀ sum₀ k₀ bad sum k = count - k
 
 most : (c : tie.After-shared-slice-known2 Inv-loop μ-loop) → c .before .before .loop .sum ≤ 64
 most c =
@@ -22,7 +23,7 @@ most c =
     omega (arith, l .loop .inv .1, l .loop .inv .0, l .before .before .pre .0, sum-most (unitsAt (now (a .src))) 2 (a .at) (l .loop .k) (units-most (now (a .src))))
 
 loop-holds : tie.Need-loop-holds Inv-loop μ-loop
-loop-holds c = (omega arith, sym (sum-zero _ _), clean-none)
+loop-holds c = (omega arith, sym (sum-zero _ _), none-begin)
 
 add-unit : tie.Need-add-unit Inv-loop μ-loop
 add-unit c = search needs
@@ -33,8 +34,8 @@ mul-unit c = search needs
 shared-slice-read-unit : tie.Need-shared-slice-read-unit Inv-loop μ-loop
 shared-slice-read-unit c = search needs
 
-is-surrogate-requires : tie.Need-is-surrogate-requires Inv-loop μ-loop
-is-surrogate-requires c κs = search needs
+is-excluded-requires : tie.Need-is-excluded-requires Inv-loop μ-loop
+is-excluded-requires c κs = search needs
 
 number-requires : tie.Need-number-requires Inv-loop μ-loop
 number-requires c κs = search needs
@@ -57,7 +58,7 @@ loop-again c =
     let a = l .before .before .args in (
       omega (arith, c .before .before .before .loop-test .taken),
       rw (c .number .ensures .0, l .loop .inv .1) (sym (sum-more (unitsAt (now (a .src))) (a .at) (l .loop .k))),
-      clean-more (l .loop .inv .2) (c .before .is-surrogate .ensures),
+      none-more (l .loop .inv .2) (c .before .is-excluded .ensures),
     )
 
 returns : tie.Need-returns Inv-loop μ-loop
@@ -71,8 +72,9 @@ returns-2 c =
     λ z.
     let l = c .before .before .before in
     let a = l .before .before .args in
+    let p = l .before .before .pre in
     let e : l .loop .k ≡ a .count = omega (arith, l .loop .inv .0, c .before .before .loop-test .left) in
-    rw (c .wide .ensures, l .loop .inv .1, e) (counted-utf16 (now (a .src)) (a .at) (a .count) (l .before .before .pre .1) (rw (e, c .before .if1 .left) at (l .loop .inv .2)))
+    rw (c .wide .ensures, l .loop .inv .1, e) (counted-utf16 (now (a .src)) (a .at) (a .count) (a .most) (p .1) (p .2) (p .3) (none-end (l .loop .inv .2) (c .before .before .loop-test .left) (c .before .if1 .left)))
 
 pub utf16-block-spec : {M : Type 1} → statement M
 utf16-block-spec =
@@ -84,7 +86,7 @@ utf16-block-spec =
     add-unit
     mul-unit
     shared-slice-read-unit
-    is-surrogate-requires
+    is-excluded-requires
     number-requires
     add-sum
     add-sum-2

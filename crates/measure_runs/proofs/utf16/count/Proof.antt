@@ -1,7 +1,7 @@
 use Prim.Native.Nat.{_-_}
 use native.Mathlib.Omega.{arith}
 use lib.ListN.{length as long}
-use Rattle.forms.specs.Forms.{utf16}
+use Rattle.forms.specs.Forms.{utf16, strictly}
 use Rattle.laws.proofs.Runs.{Counted, counted-none, counted-join}
 use Rattle.encoder.specs.Target.{targetForm}
 use borrow.Author.Needs.{needs}
@@ -9,7 +9,7 @@ use Rattle.measure_runs.proofs.utf16.count.Statement.{statement}
 use Rattle.measure_runs.proofs.utf16.count.Tie as tie
 
 abbrev Inv-loop : tie.InvT-loop
-Inv-loop target src at length₀ units₀ length units = Counted utf16 (targetForm target) src at length units
+Inv-loop target src at length₀ units₀ length units = Counted utf16 (strictly (targetForm target)) src at length units
 
 abbrev μ-loop : tie.MeasureT-loop
 μ-loop target src at length₀ units₀ length units = long src - at - length

@@ -41,14 +41,14 @@ returns c =
     let k = c .before .before .before .before in
     let x = k .before in
     rw (c .before .before .enum-told .given .1, c .wide .ensures, c .before .bytes .ensures)
-    (counted-bytes (now (x .args .src)) (x .args .at) (x .args .count) (λ i. omega (arith, k .shared-slice-known .given i)) (x .pre .1))
+    (counted-bytes (now (x .args .src)) (x .args .at) (x .args .count) (λ i. omega (arith, k .shared-slice-known .given i)) (x .pre .1) (x .pre .2))
 
 returns-2 : tie.Need-returns-2
 returns-2 c =
     let k = c .before .before .before .before in
     let x = k .before in
     rw (c .before .before .enum-told2 .given .1, c .wide2 .ensures, c .before .ebcdic-bytes .ensures)
-    (counted-ebcdic (now (x .args .src)) (x .args .at) (x .args .count) (λ i. omega (arith, k .shared-slice-known .given i)) (x .pre .1))
+    (counted-ebcdic (now (x .args .src)) (x .args .at) (x .args .count) (λ i. omega (arith, k .shared-slice-known .given i)) (x .pre .1) (x .pre .2))
 
 returns-3 : tie.Need-returns-3
 returns-3 c = counted-none (omega (arith, c .before .before .before .pre .1 .inside))
@@ -58,7 +58,7 @@ returns-4 c =
     let k = c .before .before .before .before in
     let x = k .before in
     rw (c .before .before .enum-told4 .given .1, c .wide3 .ensures, c .before .values .ensures)
-    (counted-values (now (x .args .src)) (x .args .at) (x .args .count) (λ i. omega (arith, k .shared-slice-known .given i)) (x .pre .1))
+    (counted-values (now (x .args .src)) (x .args .at) (x .args .count) (λ i. omega (arith, k .shared-slice-known .given i)) (x .pre .1) (x .pre .2))
 
 pub whole-spec : {M : Type 1} → statement M
 whole-spec =

@@ -1,18 +1,19 @@
 use Prim.Native.Nat.{_-_, _≤_}
 use native.Mathlib.Omega.{arith}
-use Rattle.measure_runs.proofs.Utf16Tests.{PlainUnless, plain-none, plain-more, plain-end}
+use Rattle.forms.specs.Forms.{isSurrogate}
+use Rattle.measure_runs.proofs.Utf16Tests.{NoneUnless, none-begin, none-more, none-end}
 use borrow.Author.Needs.{needs}
 use Rattle.measure_runs.proofs.utf16_blocks.surrogates.Statement.{statement}
 use Rattle.measure_runs.proofs.utf16_blocks.surrogates.Tie as tie
 
 abbrev Inv-loop : tie.InvT-loop
-Inv-loop src at count some₀ k₀ some k = (k ≤ count) × PlainUnless some src at k
+Inv-loop src at count some₀ k₀ some k = (k ≤ count) × NoneUnless isSurrogate some src at k
 
 abbrev μ-loop : tie.MeasureT-loop
 μ-loop src at count some₀ k₀ some k = count - k
 
 loop-holds : tie.Need-loop-holds Inv-loop μ-loop
-loop-holds c = (omega arith, plain-none)
+loop-holds c = (omega arith, none-begin)
 
 add-surrogate : tie.Need-add-surrogate Inv-loop μ-loop
 add-surrogate c = search needs
@@ -33,10 +34,10 @@ loop-less : tie.Need-loop-less Inv-loop μ-loop
 loop-less c = search needs
 
 loop-again : tie.Need-loop-again Inv-loop μ-loop
-loop-again c = (omega (arith, c .before .before .loop-test .taken), plain-more (c .before .before .before .loop .inv .1) (c .surrogate .ensures))
+loop-again c = (omega (arith, c .before .before .loop-test .taken), none-more (c .before .before .before .loop .inv .1) (c .surrogate .ensures))
 
 returns : tie.Need-returns Inv-loop μ-loop
-returns c = plain-end (c .before .loop .inv .1) (c .loop-test .left)
+returns c = none-end (c .before .loop .inv .1) (c .loop-test .left)
 
 pub surrogates-spec : {M : Type 1} → statement M
 surrogates-spec =

@@ -3,7 +3,7 @@ use lib.ListN.{length, getD}
 use Rattle.forms.specs.Exchange.{i8Of}
 use denote.Ref.{now}
 use Rattle.forms.specs.Form.{span}
-use Rattle.forms.specs.Forms.{utfEbcdic}
+use Rattle.forms.specs.Forms.{utfEbcdic, strictly}
 use Rattle.laws.proofs.Progress.{CharacterAt, character-value, character-onward}
 use Rattle.laws.proofs.Runs.{Counted, counted-none, counted-join}
 use Rattle.laws.proofs.FourForms.{utfEbcdic-laws}
@@ -16,14 +16,14 @@ use Rattle.measure_runs.proofs.utf_ebcdic.few.Statement.{statement}
 use Rattle.measure_runs.proofs.utf_ebcdic.few.Tie as tie
 
 abbrev Inv-loop : tie.InvT-loop
-Inv-loop table target src at room length₀ units₀ length units = Counted utfEbcdic (targetForm target) src at length units
+Inv-loop table target src at room length₀ units₀ length units = Counted utfEbcdic (strictly (targetForm target)) src at length units
 
 abbrev μ-loop : tie.MeasureT-loop
 μ-loop table target src at room length₀ units₀ length units = room - length
 
 -- an ASCII character more
 alone : (c : tie.Then1 Inv-loop μ-loop) → let z = c .before .before .before .before .before .before .before .args in
-    Counted utfEbcdic (targetForm (z .target)) (now (z .src)) (z .at) (c .before .before .before .before .loop .length + 1) (c .before .before .before .before .loop .units + 1)
+    Counted utfEbcdic (strictly (targetForm (z .target))) (now (z .src)) (z .at) (c .before .before .before .before .loop .length + 1) (c .before .before .before .before .loop .units + 1)
 alone c =
     let z = c .before .before .before .before .before .before .before in
     let p = z .args .at + c .before .before .before .before .loop .length in
@@ -38,7 +38,7 @@ read c = c .before .short-at .ensures .character (c .if2 .left)
 
 -- another character more
 turned : (c : tie.Else3 Inv-loop μ-loop) → let z = c .before .before .before .before .before .before .before .before .before .before .before .args in
-    Counted utfEbcdic (targetForm (z .target)) (now (z .src)) (z .at) (c .before .before .before .before .before .before .before .before .loop .length + c .before .before .before .short-at .result .length) (c .before .before .before .before .before .before .before .before .loop .units + c .before .encoded-length .result)
+    Counted utfEbcdic (strictly (targetForm (z .target))) (now (z .src)) (z .at) (c .before .before .before .before .before .before .before .before .loop .length + c .before .before .before .short-at .result .length) (c .before .before .before .before .before .before .before .before .loop .units + c .before .encoded-length .result)
 turned c = counted-more (c .before .before .before .before .before .before .before .before .before .before .before .args .target) (c .before .before .before .before .before .before .before .before .loop .inv) (read (c .before .before)) (c .before .encoded-length .ensures) (c .if3 .left)
 
 sub-bounded : tie.Need-sub-bounded Inv-loop μ-loop
