@@ -52,11 +52,11 @@ module _ (F G : Form) (most : ℕ → ℕ) (pair : Pair F G most) (known : Known
     pub conversion-call : ConversionCall s d r o
     conversion-call =
         record {
-          numbered = number-is x r (c .answer) F G known (pair .beyond) s (pair .answers s (length d) .fault-1) (pair .answers s (length d) .item-fault);
+          numbered = number-is x r (c .answer) F G known (pair .unheld) s (pair .answers s (length d) .fault-1) (pair .answers s (length d) .item-fault);
           same-cells = ap length (c .cells) ∙ cells-within x refl .0;
           within = omega (arith, ap (λ (b : JkConversion). b .units) (c .answer), cells-within x refl .1);
           place =
-              refusal-place x r (c .answer) F G known (pair .beyond) s (pair .answers s (length d) .fault-1) (pair .answers s (length d) .item-fault)
+              refusal-place x r (c .answer) F G known (pair .unheld) s (pair .answers s (length d) .fault-1) (pair .answers s (length d) .item-fault)
               (λ h. when-7 F G most pair known s d r o c h .1);
           unchanged = λ n. c .cells ∙ ap (λ (y : Outcome). cellsOf y d) (refused-with x r (c .answer) n .outcome-is);
         }
@@ -74,9 +74,9 @@ module _ (F G : Form) (most : ℕ → ℕ) (pair : Pair F G most) (known : Known
     pub measure-call : MeasureCall s r
     measure-call =
         record {
-          numbered = but-7 (number-is (outcome F G s) r (m .answer) F G known (pair .beyond) s (pair .lengths s .fault-1) (pair .lengths s .item-fault));
+          numbered = but-7 (number-is (outcome F G s) r (m .answer) F G known (pair .unheld) s (pair .lengths s .fault-1) (pair .lengths s .item-fault));
           place =
-              refusal-place (outcome F G s) r (m .answer) F G known (pair .beyond) s (pair .lengths s .fault-1) (pair .lengths s .item-fault)
+              refusal-place (outcome F G s) r (m .answer) F G known (pair .unheld) s (pair .lengths s .fault-1) (pair .lengths s .item-fault)
               (λ h. absurd (never-7 h));
         }
 

@@ -27,6 +27,7 @@ use Rattle.c_answers.specs.Answer.{jkItem, shownItem, itemAnswer, conversionAns
 use Rattle.c_answers.specs.Promises.{ConvertsInC, MeasuresInC}
 use Rattle.acceptance.specs.FaultNumbers.{Marks}
 use Rattle.acceptance.specs.Condition2.{ReadAt, Accepted, Gives, Converted, Measured, AtMost, Room}
+use Rattle.acceptance.proofs.TurnedAway.{written, all-written}
 use Rattle.acceptance.proofs.Marking.{marks-of, mark-of}
 use Rattle.acceptance.proofs.Each.{Known}
 use Rattle.acceptance.proofs.Standing.{encoding-is, stands, reads-there}
@@ -41,10 +42,11 @@ module _ (F G : Form) (most : ℕ → ℕ) (pair : Pair F G most) (known : Known
   spelled : (s es : List ℕ) → outcome F G s ≡ converted es → (vs : List ℕ) × Accepted F G vs s × (es ≡ encodeAll G vs)
   spelled s es e =
       let a = accepted F (known .laws) G s es (within-items F G s es e) in
-      (a .values, record { short = pair .lengths s .result es .0 e .0; text = a .source; from = a .from; to = a .to }, a .result)
+      let w = written G (a .values) (a .to) in
+      (a .values, record { short = pair .lengths s .result es .0 e .0; text = a .source; from = a .from; to = w .0; passed = w .1 }, a .result)
 
   outcome-of : (s vs : List ℕ) → Accepted F G vs s → outcome F G s ≡ converted (encodeAll G vs)
-  outcome-of s vs w = ap (λ (x : List ℕ). outcome F G x) (w .text) ∙ pair .accepts vs (w .from) (w .to) (rw (w .text) at (w .short))
+  outcome-of s vs w = ap (λ (x : List ℕ). outcome F G x) (w .text) ∙ pair .accepts vs (w .from) (all-written G vs (w .to) (w .passed)) (rw (w .text) at (w .short))
 
   module _ (s d : List ℕ) (r : JkConversion) (o : List ℕ) (c : ConvertsInC F G s d r o) where
     abbrev x : Outcome
@@ -97,7 +99,7 @@ module _ (F G : Form) (most : ℕ → ℕ) (pair : Pair F G most) (known : Known
     pub conversion : Converted F G s d r o
     conversion =
         record {
-          exactly = exactly x r (c .answer) F G known (pair .beyond) s (pair .answers s (length d) .fault-1) (pair .answers s (length d) .item-fault);
+          exactly = exactly x r (c .answer) F G known (pair .unheld) s (pair .answers s (length d) .fault-1) (pair .answers s (length d) .item-fault);
           fault-7 = (
             (λ h. when-7 h .0),
             (λ w.
@@ -113,7 +115,7 @@ module _ (F G : Form) (most : ℕ → ℕ) (pair : Pair F G most) (known : Known
   pub measure : (s : List ℕ) (r : JkConversion) → MeasuresInC F G s r → Measured F G s r
   measure s r m =
       record {
-        exactly = exactly (outcome F G s) r (m .answer) F G known (pair .beyond) s (pair .lengths s .fault-1) (pair .lengths s .item-fault);
+        exactly = exactly (outcome F G s) r (m .answer) F G known (pair .unheld) s (pair .lengths s .fault-1) (pair .lengths s .item-fault);
         result =
             λ h.
             let u = no-fault (outcome F G s) r (m .answer) h in

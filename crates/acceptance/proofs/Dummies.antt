@@ -14,6 +14,7 @@ use Rattle.c_answers.specs.Promises.{ConvertsInC, DecodesLossyInC}
 use Rattle.acceptance.specs.Calls.{EachForm, EachPair}
 use Rattle.acceptance.specs.Condition2.{Accepted}
 use Rattle.acceptance.specs.Dummies.{NoDummyConverter, NoDummyReader, NotEmpty}
+use Rattle.acceptance.proofs.TurnedAway.{not-turned}
 use Rattle.acceptance.proofs.Each.{Known, known, each-pair-with}
 use Rattle.acceptance.proofs.Condition2.{conversion, shown}
 use Rattle.acceptance.proofs.Condition3.{condition-3}
@@ -44,12 +45,12 @@ same-unit e = cc
 
 module _ (F G : Form) (most : ℕ → ℕ) (pair : Pair F G most) (f : TwoCharacters F) (g : TwoCharacters G) where
   gives :
-      (v u w : ℕ) → encode F v ≡ u ∷ [] → encode G v ≡ w ∷ [] → (d : List ℕ) (r : JkConversion) (o : List ℕ) → ConvertsInC F G (encode F v) d r o
+      (v u w : ℕ) → v < 0x80 → encode F v ≡ u ∷ [] → encode G v ≡ w ∷ [] → (d : List ℕ) (r : JkConversion) (o : List ℕ) → ConvertsInC F G (encode F v) d r o
       → 1 ≤ length d → (r .fault ≡ 0) × (r .units ≡ 1) × (take 1 o ≡ w ∷ [])
-  gives v u w e h d r o c l =
+  gives v u w s e h d r o c l =
       let k : length (encodeAll G (v ∷ [])) ≡ 1 = ap length (append-nil (encode G v) ∙ h) in
       let a : Accepted F G (v ∷ []) (encode F v) =
-      record { short = rw e (omega arith); text = sym (append-nil (encode F v)); from = (not-empty e, tt); to = (not-empty h, tt) } in
+      record { short = rw e (omega arith); text = sym (append-nil (encode F v)); from = (not-empty e, tt); to = (not-empty h, tt); passed = (not-turned (λ k. omega arith), tt) } in
       let z = conversion F G most pair (f .known-so) (encode F v) d r o c .given (v ∷ []) a (omega arith) in
       let n : r .units ≡ 1 = z .units ∙ k in
       (z .no-fault, n, ap (λ (m : ℕ). take m o) (sym n) ∙ z .front ∙ append-nil (encode G v) ∙ h)
@@ -57,14 +58,14 @@ module _ (F G : Form) (most : ℕ → ℕ) (pair : Pair F G most) (f : TwoCharac
   no-dummy : NoDummyConverter F G
   no-dummy =
       record {
-        not-all-refused = λ d r o c l. let z = gives 0x41 (f .a) (g .a) (f .one) (g .one) d r o c l in (z .0, z .1);
+        not-all-refused = λ d r o c l. let z = gives 0x41 (f .a) (g .a) (omega arith) (f .one) (g .one) d r o c l in (z .0, z .1);
         not-one-result =
             λ d q r o p c e l same.
-            let y = gives 0x41 (f .a) (g .a) (f .one) (g .one) d q o c l .2 in
-            let z = gives 0x42 (f .b) (g .b) (f .other) (g .other) d r p e l .2 in
+            let y = gives 0x41 (f .a) (g .a) (omega arith) (f .one) (g .one) d q o c l .2 in
+            let z = gives 0x42 (f .b) (g .b) (omega arith) (f .other) (g .other) d r p e l .2 in
             let w : g .a ≡ g .b = same-unit (sym y ∙ ap (take 1) same ∙ z) in
             omega (arith, g .differ);
-        not-nothing-written = λ d r o c l n same. n (ap (take 1) (sym same) ∙ gives 0x41 (f .a) (g .a) (f .one) (g .one) d r o c l .2 ∙ sym (g .one));
+        not-nothing-written = λ d r o c l n same. n (ap (take 1) (sym same) ∙ gives 0x41 (f .a) (g .a) (omega arith) (f .one) (g .one) d r o c l .2 ∙ sym (g .one));
       }
 
 pub no-dummy-converter : EachPair NoDummyConverter

@@ -3,6 +3,7 @@ pub mod Marking
 pub mod FaultNumbers
 pub mod Each
 pub mod Standing
+pub mod TurnedAway
 pub mod FirstFaults
 pub mod Outcomes
 pub mod Decoded

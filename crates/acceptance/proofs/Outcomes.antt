@@ -2,7 +2,7 @@
 use Prim.Native.Nat.{ℕ, _<_, _≤_}
 use mathlib.Core.Path.{_≡_, refl, sym, ap, _∙_, subst}
 use mathlib.Core.Logic.{_≢_, _↔_, _⊎_, inl, inr}
-use mathlib.Core.List.{List, [], _∷_}
+use mathlib.Core.List.{List, _∷_}
 use native.Mathlib.Omega.{arith}
 use native.Mathlib.Decide.{ℕ-discrete}
 use lib.ListN.{length, length-append}
@@ -10,7 +10,8 @@ use Rattle.types.specs.declared.Fault.{Fault}
 use Rattle.types.specs.declared.Fault.the-variants.{SourceTooLong}
 use Rattle.types.specs.declared.Refusal.{Refusal}
 use Rattle.forms.specs.Fault.{numberOf, limit, refusal}
-use Rattle.forms.specs.Form.{Form, items, encode, encodeAll}
+use Rattle.forms.specs.Form.{Form, items, encodeAll}
+use Rattle.forms.specs.Forms.{strictly}
 use Rattle.forms.specs.Conversion.{Outcome, converted, refused, answerOf}
 use Rattle.laws.specs.Exactness.{OwnFault, FirstFault as FirstItem}
 use Rattle.laws.proofs.Exactness.{items-refused, other-number}
@@ -21,6 +22,7 @@ use Rattle.acceptance.specs.Condition1.{RefusalPlace}
 use Rattle.acceptance.specs.Condition2.{FirstFault, Exactly}
 use Rattle.acceptance.proofs.Numbers.{same-fault, not-none, not-among}
 use Rattle.acceptance.proofs.Each.{Known}
+use Rattle.acceptance.proofs.TurnedAway.{Unheld}
 use Rattle.acceptance.proofs.FirstFaults.{refuses-among, first-fault, refused-there}
 
 pub no-fault : (x : Outcome) (r : JkConversion) → r ≡ conversionAnswer (answerOf x) → r .fault ≡ 0 → (es : List ℕ) × (x ≡ converted es) × (r .units ≡ length es)
@@ -63,9 +65,9 @@ module _ (x : Outcome) (r : JkConversion) (e : r ≡ conversionAnswer (answerOf 
   pub number-of : (y : Outcome) → x ≡ y → r ≡ conversionAnswer (answerOf y)
   number-of y h = e ∙ ap (λ (z : Outcome). conversionAnswer (answerOf z)) h
 
-  module _ (F G : Form) (known : Known F) (beyond : (v : ℕ) → encode F v ≢ [] → encode G v ≡ [] → 0x10FFFF < v) (s : List ℕ)
+  module _ (F G : Form) (known : Known F) (unheld : Unheld F G) (s : List ℕ)
       (when-1 : (p : ℕ) → x ≡ refused (refusal SourceTooLong p) ↔ ((limit < length s) × (p ≡ 0)))
-      (when-item : (q : Refusal) → OwnFault (q .fault) → x ≡ refused q ↔ ((length s ≤ limit) × FirstItem G (items F s) q))
+      (when-item : (q : Refusal) → OwnFault (q .fault) → x ≡ refused q ↔ ((length s ≤ limit) × FirstItem (strictly G) (items F s) q))
     where
       -- the first item at fault
       pub item-of : r .fault ≢ 0 → r .fault ≢ 1 → r .fault ≢ 7 → FirstFault F G s (r .offset) (r .fault)
@@ -74,17 +76,17 @@ module _ (x : Outcome) (r : JkConversion) (e : r ≡ conversionAnswer (answerOf 
           let q = w .refusal-is in
           let y = when-item q (other-number (q .fault) (λ z. a (sym (w .number) ∙ z)) (λ z. b (sym (w .number) ∙ z))) .0 (w .outcome-is) in
           moved (q .offset) (r .offset) (numberOf (q .fault)) (r .fault) (w .place) (w .number)
-          (first-fault F (known .laws) G (known .own) beyond s q (y .0) (items-refused G (items F s) q .1 (y .1)))
+          (first-fault F (known .laws) G unheld (known .own) s q (y .0) (items-refused (strictly G) (items F s) q .1 (y .1)))
         where
           moved : (p q k l : ℕ) → p ≡ q → k ≡ l → FirstFault F G s p k → FirstFault F G s q l
           moved p q k l a b f = subst (λ (y : ℕ). FirstFault F G s y l) a (subst (λ (y : ℕ). FirstFault F G s p y) b f)
 
       given-there : (q k : ℕ) → FirstFault F G s q k → (r .fault ≡ k) × (r .offset ≡ q) × Among k strictFaults
       given-there q k f =
-          let y = refused-there F (known .laws) G s q k f in
-          let a = refuses-among F (known .laws) G (f .unit) (f .others) k (f .refused) in
+          let y = refused-there F (known .laws) G unheld s q k f in
+          let a = refuses-among F (known .laws) G unheld (f .unit) (f .others) k (f .refused) in
           let own = other-number (y .0 .fault) (λ z. not-among k 1 strictFaults refl a (sym (y .2) ∙ z)) (λ z. not-among k 7 strictFaults refl a (sym (y .2) ∙ z)) in
-          let w = number-of (refused (y .0)) (when-item (y .0) own .1 (f .short, items-refused G (items F s) (y .0) .0 (y .1))) in
+          let w = number-of (refused (y .0)) (when-item (y .0) own .1 (f .short, items-refused (strictly G) (items F s) (y .0) .0 (y .1))) in
           (ap (λ (b : JkConversion). b .fault) w ∙ y .2, ap (λ (b : JkConversion). b .offset) w ∙ y .3, a)
 
       pub exactly : Exactly F G s r
@@ -132,4 +134,4 @@ module _ (x : Outcome) (r : JkConversion) (e : r ≡ conversionAnswer (answerOf 
           go (no a) (no b) (yes c) = inr (inr (inl c))
           go (no a) (no b) (no c) =
               let f = item-of a b c in
-              inr (inr (inr (refuses-among F (known .laws) G (f .unit) (f .others) (r .fault) (f .refused))))
+              inr (inr (inr (refuses-among F (known .laws) G unheld (f .unit) (f .others) (r .fault) (f .refused))))

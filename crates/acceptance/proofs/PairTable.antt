@@ -7,7 +7,7 @@ use mathlib.Core.List.{List, [], _∷_, _++_}
 use native.Mathlib.Omega.{arith}
 use lib.ListN.{length}
 use Rattle.types.specs.declared.Fault.{Fault}
-use Rattle.types.specs.declared.Fault.the-variants.{Unrepresentable}
+use Rattle.types.specs.declared.Fault.the-variants.{Unrepresentable, NonCharacter}
 use Rattle.forms.specs.Fault.{numberOf, refusal}
 use Rattle.forms.specs.Form.{Form, encode, encodeAll}
 use Rattle.forms.specs.Forms.{fssUtf, utfEbcdic, utf16, ucs4}
@@ -16,7 +16,7 @@ use Rattle.laws.specs.TwelvePairs.{Pair}
 use Rattle.laws.proofs.TwelvePairs.{fssUtf-utfEbcdic, fssUtf-utf16, fssUtf-ucs4, utfEbcdic-fssUtf, utfEbcdic-utf16, utfEbcdic-ucs4, utf16-fssUtf, utf16-utfEbcdic, utf16-ucs4, ucs4-fssUtf, ucs4-utfEbcdic, ucs4-utf16}
 use Rattle.c_answers.specs.declared.JkConversion.{JkConversion}
 use Rattle.c_answers.specs.Answer.{conversionAnswer}
-use Rattle.acceptance.specs.FaultNumbers.{Among, strictFaults, Refuses, marked, unheld, NoSurrogate, Below, Refusals, PairTable}
+use Rattle.acceptance.specs.FaultNumbers.{Among, strictFaults, Refuses, marked, turned-away, unheld, NoSurrogate, Below, Refusals, PairTable}
 use Rattle.acceptance.specs.Condition2.{FirstFault, Exactly}
 use Rattle.acceptance.proofs.Numbers.{has, among, allIn, all-in}
 use Rattle.acceptance.proofs.FaultNumbers.{values-held, Row}
@@ -37,15 +37,17 @@ record Refused (F G : Form) (w k : ℕ) : Type 0 where
   pub number : numberOf fault ≡ k
   pub turned : outcome F G text ≡ refused (refusal fault 0)
 
--- a source F whose marks have the faults ms, and a target G that refuses by 6 where ks has it
+-- a source F whose marks have the faults ms, and a target G that refuses by 12, and by 6 where ks has it
 module _ (F G : Form) (most : ℕ → ℕ) (pair : Pair F G most) (known-so : Known F) (w : ℕ) (ms ks : List ℕ)
     (row : Row F w ms)
     (both : allIn ms ks ≡ true)
+    (twelve : Among 12 ks)
     (six : (v : ℕ) → encode F v ≢ [] → encode G v ≡ [] → Among 6 ks)
     (given : (k : ℕ) → Among k ks → Refused F G w k)
   where
     of-item : (u : ℕ) (us : List ℕ) (k : ℕ) → u < w → Refuses F G u us k → Among k ks
     of-item u us k h (marked m) = all-in k ms ks both (row u us k h m)
+    of-item u us k h (turned-away e v o t) = rw e twelve
     of-item u us k h (unheld e v o b n) = rw e (six v (o .has) n)
 
     of-first : (s : List ℕ) (q k : ℕ) → Below w s → FirstFault F G s q k → Among k ks
@@ -85,37 +87,66 @@ module _ (F G : Form) (most : ℕ → ℕ) (pair : Pair F G most) (known-so : Kn
         less s r b x (inr (inl a)) = inr (inl a)
         less s r b x (inr (inr a)) = inr (inr (item s r b x a))
 
+numbered : {F G : Form} {w k n : ℕ} → Refused F G w n → k ≡ n → Refused F G w k
+numbered g e = record { text = g .text; below = g .below; fault = g .fault; number = g .number ∙ sym e; turned = g .turned }
+
 by-mark : {F : Form} (G : Form) {w k : ℕ} → Marked F w k → Refused F G w k
 by-mark G m = record { text = m .text; below = m .below; fault = m .fault; number = m .number; turned = m .turned G }
 
--- a target that holds every value: the faults of the source's marks, and no others
+either : (k : ℕ) (ms ns : List ℕ) → Among k (ms ++ ns) → Among k ms ⊎ Among k ns
+either k [] ns a = inr a
+either k (m ∷ ms) ns (inl e) = inl (inl e)
+either k (m ∷ ms) ns (inr a) = go (either k ms ns a)
+  where
+    go : Among k ms ⊎ Among k ns → Among k (m ∷ ms) ⊎ Among k ns
+    go (inl b) = inl (inr b)
+    go (inr b) = inr b
+
+-- a target that holds every value: the faults of the source's marks, 12, and no others
 to-any :
     {F G : Form} {most : ℕ → ℕ} {w : ℕ} {ms : List ℕ} (ks : List ℕ) → Source F w ms → Pair F G most → ((v : ℕ) → (v ≤ 0x7FFFFFFF) × NoSurrogate v → encode G v ≢ [])
-    → allIn ms ks ≡ true → allIn ks ms ≡ true → Refusals F G w ks
-to-any {F} {G} {most} {w} {ms} ks a p holds all none-else =
-    refusals F G most p (a .known-so) w ms ks (a .row) all (λ v n e. absurd (holds v (a .values v n) e))
-    (λ k m. by-mark G (a .marked-by k (all-in k ks ms none-else m)))
-
-either : (k : ℕ) (ms : List ℕ) → Among k (ms ++ (6 ∷ [])) → Among k ms ⊎ (k ≡ 6)
-either k [] (inl e) = inr e
-either k (m ∷ ms) (inl e) = inl (inl e)
-either k (m ∷ ms) (inr a) = go (either k ms a)
+    → Refused F G w 12 → allIn ms ks ≡ true → has 12 ks ≡ true → allIn ks (ms ++ (12 ∷ [])) ≡ true → Refusals F G w ks
+to-any {F} {G} {most} {w} {ms} ks a p holds non all twelve none-else =
+    refusals F G most p (a .known-so) w ms ks (a .row) all (among 12 12 ks twelve refl) (λ v n e. absurd (holds v (a .values v n) e))
+    (λ k m. go k (either k ms (12 ∷ []) (all-in k ks (ms ++ (12 ∷ [])) none-else m)))
   where
-    go : Among k ms ⊎ (k ≡ 6) → Among k (m ∷ ms) ⊎ (k ≡ 6)
-    go (inl b) = inl (inr b)
-    go (inr e) = inr e
+    go : (k : ℕ) → Among k ms ⊎ Among k (12 ∷ []) → Refused F G w k
+    go k (inl m) = by-mark G (a .marked-by k m)
+    go k (inr (inl e)) = numbered non e
 
 -- one that does not: 6 besides
 to-utf16 :
-    {F : Form} {most : ℕ → ℕ} {w : ℕ} {ms : List ℕ} (ks : List ℕ) → Source F w ms → Pair F utf16 most → Refused F utf16 w 6 → allIn ms ks ≡ true → has 6 ks ≡ true
-    → allIn ks (ms ++ (6 ∷ [])) ≡ true → Refusals F utf16 w ks
-to-utf16 {F} {most} {w} {ms} ks a p large all six none-else =
-    refusals F utf16 most p (a .known-so) w ms ks (a .row) all (λ v n e. among 6 6 ks six refl)
-    (λ k m. go k (either k ms (all-in k ks (ms ++ (6 ∷ [])) none-else m)))
+    {F : Form} {most : ℕ → ℕ} {w : ℕ} {ms : List ℕ} (ks : List ℕ) → Source F w ms → Pair F utf16 most → Refused F utf16 w 12 → Refused F utf16 w 6 → allIn ms ks ≡ true
+    → has 12 ks ≡ true → has 6 ks ≡ true → allIn ks (ms ++ (12 ∷ 6 ∷ [])) ≡ true → Refusals F utf16 w ks
+to-utf16 {F} {most} {w} {ms} ks a p non large all twelve six none-else =
+    refusals F utf16 most p (a .known-so) w ms ks (a .row) all (among 12 12 ks twelve refl) (λ v n e. among 6 6 ks six refl)
+    (λ k m. go k (either k ms (12 ∷ 6 ∷ []) (all-in k ks (ms ++ (12 ∷ 6 ∷ [])) none-else m)))
   where
-    go : (k : ℕ) → Among k ms ⊎ (k ≡ 6) → Refused F utf16 w k
+    go : (k : ℕ) → Among k ms ⊎ Among k (12 ∷ 6 ∷ []) → Refused F utf16 w k
     go k (inl m) = by-mark utf16 (a .marked-by k m)
-    go k (inr e) = record { text = large .text; below = large .below; fault = large .fault; number = large .number ∙ sym e; turned = large .turned }
+    go k (inr (inl e)) = numbered non e
+    go k (inr (inr (inl e))) = numbered large e
+
+-- FFFF, of each form
+fssUtf-non : (G : Form) → outcome fssUtf G (0xEF ∷ 0xBF ∷ 0xBF ∷ []) ≡ refused (refusal NonCharacter 0) → Refused fssUtf G 0x100 12
+fssUtf-non G e =
+    record { text = 0xEF ∷ 0xBF ∷ 0xBF ∷ []; below = (omega arith, (omega arith, (omega arith, tt))); fault = NonCharacter; number = refl; turned = e }
+
+utfEbcdic-non : (G : Form) → outcome utfEbcdic G (0xB3 ∷ 0xFE ∷ 0xFE ∷ 0xFE ∷ []) ≡ refused (refusal NonCharacter 0) → Refused utfEbcdic G 0x100 12
+utfEbcdic-non G e =
+    record {
+      text = 0xB3 ∷ 0xFE ∷ 0xFE ∷ 0xFE ∷ [];
+      below = (omega arith, (omega arith, (omega arith, (omega arith, tt))));
+      fault = NonCharacter;
+      number = refl;
+      turned = e;
+    }
+
+utf16-non : (G : Form) → outcome utf16 G (0xFFFF ∷ []) ≡ refused (refusal NonCharacter 0) → Refused utf16 G 0x10000 12
+utf16-non G e = record { text = 0xFFFF ∷ []; below = (omega arith, tt); fault = NonCharacter; number = refl; turned = e }
+
+ucs4-non : (G : Form) → outcome ucs4 G (0xFFFF ∷ []) ≡ refused (refusal NonCharacter 0) → Refused ucs4 G 0x100000000 12
+ucs4-non G e = record { text = 0xFFFF ∷ []; below = (omega arith, tt); fault = NonCharacter; number = refl; turned = e }
 
 -- 110000, of each form that has it
 fssUtf-large : Refused fssUtf utf16 0x100 6
@@ -144,16 +175,16 @@ ucs4-large = record { text = 0x110000 ∷ []; below = (omega arith, tt); fault =
 pub pair-table : PairTable
 pair-table =
     record {
-      fss-utf-to-utf-ebcdic = to-any _ fssUtf-source fssUtf-utfEbcdic (λ v. values-held .utf-ebcdic v .1) refl refl;
-      fss-utf-to-utf-16 = to-utf16 _ fssUtf-source fssUtf-utf16 fssUtf-large refl refl refl;
-      fss-utf-to-ucs-4 = to-any _ fssUtf-source fssUtf-ucs4 (λ v. values-held .ucs-4 v .1) refl refl;
-      utf-ebcdic-to-fss-utf = to-any _ utfEbcdic-source utfEbcdic-fssUtf (λ v. values-held .fss-utf v .1) refl refl;
-      utf-ebcdic-to-utf-16 = to-utf16 _ utfEbcdic-source utfEbcdic-utf16 utfEbcdic-large refl refl refl;
-      utf-ebcdic-to-ucs-4 = to-any _ utfEbcdic-source utfEbcdic-ucs4 (λ v. values-held .ucs-4 v .1) refl refl;
-      utf-16-to-fss-utf = to-any _ utf16-source utf16-fssUtf (λ v. values-held .fss-utf v .1) refl refl;
-      utf-16-to-utf-ebcdic = to-any _ utf16-source utf16-utfEbcdic (λ v. values-held .utf-ebcdic v .1) refl refl;
-      utf-16-to-ucs-4 = to-any _ utf16-source utf16-ucs4 (λ v. values-held .ucs-4 v .1) refl refl;
-      ucs-4-to-fss-utf = to-any _ ucs4-source ucs4-fssUtf (λ v. values-held .fss-utf v .1) refl refl;
-      ucs-4-to-utf-ebcdic = to-any _ ucs4-source ucs4-utfEbcdic (λ v. values-held .utf-ebcdic v .1) refl refl;
-      ucs-4-to-utf-16 = to-utf16 _ ucs4-source ucs4-utf16 ucs4-large refl refl refl;
+      fss-utf-to-utf-ebcdic = to-any _ fssUtf-source fssUtf-utfEbcdic (λ v. values-held .utf-ebcdic v .1) (fssUtf-non _ refl) refl refl refl;
+      fss-utf-to-utf-16 = to-utf16 _ fssUtf-source fssUtf-utf16 (fssUtf-non _ refl) fssUtf-large refl refl refl refl;
+      fss-utf-to-ucs-4 = to-any _ fssUtf-source fssUtf-ucs4 (λ v. values-held .ucs-4 v .1) (fssUtf-non _ refl) refl refl refl;
+      utf-ebcdic-to-fss-utf = to-any _ utfEbcdic-source utfEbcdic-fssUtf (λ v. values-held .fss-utf v .1) (utfEbcdic-non _ refl) refl refl refl;
+      utf-ebcdic-to-utf-16 = to-utf16 _ utfEbcdic-source utfEbcdic-utf16 (utfEbcdic-non _ refl) utfEbcdic-large refl refl refl refl;
+      utf-ebcdic-to-ucs-4 = to-any _ utfEbcdic-source utfEbcdic-ucs4 (λ v. values-held .ucs-4 v .1) (utfEbcdic-non _ refl) refl refl refl;
+      utf-16-to-fss-utf = to-any _ utf16-source utf16-fssUtf (λ v. values-held .fss-utf v .1) (utf16-non _ refl) refl refl refl;
+      utf-16-to-utf-ebcdic = to-any _ utf16-source utf16-utfEbcdic (λ v. values-held .utf-ebcdic v .1) (utf16-non _ refl) refl refl refl;
+      utf-16-to-ucs-4 = to-any _ utf16-source utf16-ucs4 (λ v. values-held .ucs-4 v .1) (utf16-non _ refl) refl refl refl;
+      ucs-4-to-fss-utf = to-any _ ucs4-source ucs4-fssUtf (λ v. values-held .fss-utf v .1) (ucs4-non _ refl) refl refl refl;
+      ucs-4-to-utf-ebcdic = to-any _ ucs4-source ucs4-utfEbcdic (λ v. values-held .utf-ebcdic v .1) (ucs4-non _ refl) refl refl refl;
+      ucs-4-to-utf-16 = to-utf16 _ ucs4-source ucs4-utf16 (ucs4-non _ refl) ucs4-large refl refl refl refl;
     }

@@ -3,7 +3,7 @@
 use Prim.Native.Nat.{ℕ, _*_, _/_, _≤_, _<_}
 use mathlib.Core.Path.{_≡_}
 use mathlib.Core.Logic.{_⊎_, _↔_}
-use mathlib.Core.List.{List, _∷_, _++_, map}
+use mathlib.Core.List.{List, [], _∷_, _++_, map}
 use lib.ListN.{length, take, drop}
 use Rattle.forms.specs.Form.{Form, items, encode, encodeAll, AllEncodable, OccursAt}
 use Rattle.forms.specs.Lossy.{valueOf, offsetOf, marks}
@@ -12,7 +12,7 @@ use Rattle.c_answers.specs.declared.JkConversion.{JkConversion}
 use Rattle.c_answers.specs.declared.JkDecoding.{JkDecoding}
 use Rattle.c_answers.specs.declared.JkItem.{JkItem}
 use Rattle.c_answers.specs.Promises.{ConvertsInC, MeasuresInC}
-use Rattle.acceptance.specs.FaultNumbers.{Among, strictFaults, Marks, Refuses}
+use Rattle.acceptance.specs.FaultNumbers.{Among, strictFaults, Marks, TurnedAway, Refuses}
 
 -- reading, at a place inside a text: a character exactly where its legal encoding stands, and as long; a mark of a fault exactly then
 pub record ReadAt (F : Form) (s : List ℕ) (q : ℕ) (r : JkItem) : Type 0 where
@@ -35,14 +35,20 @@ pub record Decoded (F : Form) (s d e : List ℕ) (r : JkDecoding) (o p : List �
   pub fault-7 : (r .fault ≡ 7) ↔ ((length s ≤ 65536) × ((length d < length (items F s)) ⊎ (length e < length (items F s))))
   pub result : r .fault ≡ 0 → Returned F s d e r o p
 
--- an accepted text: good characters of the values vs, each of which G has a legal encoding of too
+-- request 110, "demand 2 reads 'accepted text' without them"
+abbrev pub NoneTurnedAway : List ℕ → Type 0
+NoneTurnedAway [] = Unit {0}
+NoneTurnedAway (v ∷ vs) = (TurnedAway v → ⊥) × NoneTurnedAway vs
+
+-- an accepted text: good characters of the values vs, each of which G has a legal encoding of too, and none of which is turned away
 pub record Accepted (F G : Form) (vs s : List ℕ) : Type 0 where
   pub short : length s ≤ 65536
   pub text : s ≡ encodeAll F vs
   pub from : AllEncodable F vs
   pub to : AllEncodable G vs
+  pub passed : NoneTurnedAway vs
 
--- "at the lowest place where one applies": good characters that G can hold, then, at q, what it refuses by k
+-- "at the lowest place where one applies": good characters that are written in G, then, at q, what is refused by k
 pub record FirstFault (F G : Form) (s : List ℕ) (q k : ℕ) : Type 0 where
   pub values : List ℕ
   pub unit : ℕ
@@ -51,10 +57,11 @@ pub record FirstFault (F G : Form) (s : List ℕ) (q k : ℕ) : Type 0 where
   pub text : s ≡ encodeAll F values ++ (unit ∷ others)
   pub from : AllEncodable F values
   pub to : AllEncodable G values
+  pub passed : NoneTurnedAway values
   pub place : q ≡ length (encodeAll F values)
   pub refused : Refuses F G unit others k
 
--- "Each is given exactly then, in this order. Whole-text calls: 1; then 2, 3, 4, 5 ... or 6 at the lowest place where one applies"
+-- "Each is given exactly then, in this order. Whole-text calls: 1; then 2, 3, 4, 5 ... or 6 at the lowest place where one applies", 10 and 12 with them
 pub record Exactly (F G : Form) (s : List ℕ) (r : JkConversion) : Type 0 where
   pub fault-1 : (r .fault ≡ 1) ↔ (65536 < length s)
   pub item-fault : (q k : ℕ) → ((r .fault ≡ k) × (r .offset ≡ q) × Among k strictFaults) ↔ FirstFault F G s q k

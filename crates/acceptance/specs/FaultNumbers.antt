@@ -1,4 +1,4 @@
--- Document 01, "Fault numbers", as requests 104 and 107 leave them: which numbers a call gives, which an item has, and when. 0 stands for no fault.
+-- Document 01, "Fault numbers", as requests 104, 107 and 110 leave them: which numbers a call gives, which an item has, and when. 0 stands for no fault.
 use Prim.Native.Nat.{ℕ, suc, _^_, _≤_, _<_}
 use mathlib.Core.Path.{_≡_}
 use mathlib.Core.Logic.{_≢_, _⊎_, _↔_}
@@ -21,9 +21,9 @@ Among k (n ∷ ns) = (k ≡ n) ⊎ Among k ns
 abbrev pub markFaults : List ℕ
 markFaults = 2 ∷ 3 ∷ 4 ∷ 5 ∷ 10 ∷ []
 
--- "then 2, 3, 4, 5 ... or 6", with 10 "tried after 5": those by which a strict conversion refuses an item
+-- "then 2, 3, 4, 5 ... or 6", with 10 "tried after 5" and 12 "before 6": those by which a strict conversion refuses an item
 abbrev pub strictFaults : List ℕ
-strictFaults = 2 ∷ 3 ∷ 4 ∷ 5 ∷ 10 ∷ 6 ∷ []
+strictFaults = 2 ∷ 3 ∷ 4 ∷ 5 ∷ 10 ∷ 12 ∷ 6 ∷ []
 
 -- the numbers that a conversion gives
 abbrev pub conversionFaults : List ℕ
@@ -54,9 +54,15 @@ pub data Marks (F : Form) (u : ℕ) (us : List ℕ) (k : ℕ) : Type 0 where
       k ≡ 10 → (n : ℕ) → F .role u ≡ lead n → length (taken F n us) ≡ n → suc n ≤ length (F .shortest (F .value (firstOf F u us)))
       → 0xD800 ≤ F .value (firstOf F u us) → F .value (firstOf F u us) ≤ 0xDFFF → Marks F u us k
 
+-- request 110, "FFFE and FFFF turned away"
+abbrev pub TurnedAway : ℕ → Type 0
+TurnedAway v = (v ≡ 0xFFFE) ⊎ (v ≡ 0xFFFF)
+
 -- when a conversion to G refuses it by k
 pub data Refuses (F G : Form) (u : ℕ) (us : List ℕ) (k : ℕ) : Type 0 where
   marked : Marks F u us k → Refuses F G u us k
+  -- "Strict conversion and the measure shall refuse them from every form": a good character of such a value
+  turned-away : k ≡ 12 → (v : ℕ) → OccursAt F (u ∷ us) 0 v → TurnedAway v → Refuses F G u us k
   -- "the target can't hold the value", and "fault 6 is left with values above 10FFFF": a good character of such a value that has no legal
   -- encoding there; see `Held`
   unheld : k ≡ 6 → (v : ℕ) → OccursAt F (u ∷ us) 0 v → 0x10FFFF < v → encode G v ≡ [] → Refuses F G u us k
@@ -118,15 +124,15 @@ pub record Refusals (F G : Form) (w : ℕ) (ks : List ℕ) : Type 0 where
       × ((r : JkConversion) → MeasuresInC F G s r → r .fault ≡ k)
 
 pub record PairTable : Type 0 where
-  pub fss-utf-to-utf-ebcdic : Refusals fssUtf utfEbcdic 0x100 (2 ∷ 3 ∷ 4 ∷ 5 ∷ 10 ∷ [])
-  pub fss-utf-to-utf-16 : Refusals fssUtf utf16 0x100 (2 ∷ 3 ∷ 4 ∷ 5 ∷ 10 ∷ 6 ∷ [])
-  pub fss-utf-to-ucs-4 : Refusals fssUtf ucs4 0x100 (2 ∷ 3 ∷ 4 ∷ 5 ∷ 10 ∷ [])
-  pub utf-ebcdic-to-fss-utf : Refusals utfEbcdic fssUtf 0x100 (2 ∷ 3 ∷ 5 ∷ 10 ∷ [])
-  pub utf-ebcdic-to-utf-16 : Refusals utfEbcdic utf16 0x100 (2 ∷ 3 ∷ 5 ∷ 10 ∷ 6 ∷ [])
-  pub utf-ebcdic-to-ucs-4 : Refusals utfEbcdic ucs4 0x100 (2 ∷ 3 ∷ 5 ∷ 10 ∷ [])
-  pub utf-16-to-fss-utf : Refusals utf16 fssUtf 0x10000 (2 ∷ 3 ∷ [])
-  pub utf-16-to-utf-ebcdic : Refusals utf16 utfEbcdic 0x10000 (2 ∷ 3 ∷ [])
-  pub utf-16-to-ucs-4 : Refusals utf16 ucs4 0x10000 (2 ∷ 3 ∷ [])
-  pub ucs-4-to-fss-utf : Refusals ucs4 fssUtf 0x100000000 (4 ∷ 10 ∷ [])
-  pub ucs-4-to-utf-ebcdic : Refusals ucs4 utfEbcdic 0x100000000 (4 ∷ 10 ∷ [])
-  pub ucs-4-to-utf-16 : Refusals ucs4 utf16 0x100000000 (4 ∷ 10 ∷ 6 ∷ [])
+  pub fss-utf-to-utf-ebcdic : Refusals fssUtf utfEbcdic 0x100 (2 ∷ 3 ∷ 4 ∷ 5 ∷ 10 ∷ 12 ∷ [])
+  pub fss-utf-to-utf-16 : Refusals fssUtf utf16 0x100 (2 ∷ 3 ∷ 4 ∷ 5 ∷ 10 ∷ 12 ∷ 6 ∷ [])
+  pub fss-utf-to-ucs-4 : Refusals fssUtf ucs4 0x100 (2 ∷ 3 ∷ 4 ∷ 5 ∷ 10 ∷ 12 ∷ [])
+  pub utf-ebcdic-to-fss-utf : Refusals utfEbcdic fssUtf 0x100 (2 ∷ 3 ∷ 5 ∷ 10 ∷ 12 ∷ [])
+  pub utf-ebcdic-to-utf-16 : Refusals utfEbcdic utf16 0x100 (2 ∷ 3 ∷ 5 ∷ 10 ∷ 12 ∷ 6 ∷ [])
+  pub utf-ebcdic-to-ucs-4 : Refusals utfEbcdic ucs4 0x100 (2 ∷ 3 ∷ 5 ∷ 10 ∷ 12 ∷ [])
+  pub utf-16-to-fss-utf : Refusals utf16 fssUtf 0x10000 (2 ∷ 3 ∷ 12 ∷ [])
+  pub utf-16-to-utf-ebcdic : Refusals utf16 utfEbcdic 0x10000 (2 ∷ 3 ∷ 12 ∷ [])
+  pub utf-16-to-ucs-4 : Refusals utf16 ucs4 0x10000 (2 ∷ 3 ∷ 12 ∷ [])
+  pub ucs-4-to-fss-utf : Refusals ucs4 fssUtf 0x100000000 (4 ∷ 10 ∷ 12 ∷ [])
+  pub ucs-4-to-utf-ebcdic : Refusals ucs4 utfEbcdic 0x100000000 (4 ∷ 10 ∷ 12 ∷ [])
+  pub ucs-4-to-utf-16 : Refusals ucs4 utf16 0x100000000 (4 ∷ 10 ∷ 12 ∷ 6 ∷ [])
