@@ -1,7 +1,8 @@
 /* Jiskromet: a text converter between FSS-UTF, UTF-EBCDIC, UTF-16 and UCS-4 whose every function is proved.
  *
  * FSS-UTF is X/Open's of 1993, with values up to 7FFFFFFF; today's UTF-8 can be lent as it. The surrogate values D800 to
- * DFFF are characters in no form: of UTF-16's units of these numbers two make a pair. UTF-EBCDIC is the draft of
+ * DFFF are characters in no form: of UTF-16's units of these numbers two make a pair. FFFE and FFFF are characters in
+ * every form, but strict conversion refuses them, since a client's host stops at them. UTF-EBCDIC is the draft of
  * Unicode Technical Report #16 of January 1999. The later report places 97 of the 256 bytes otherwise, and a host that
  * follows it misreads every letter outside ASCII: the degree sign is 47 BF here, and 80 57 there.
  *
@@ -44,7 +45,8 @@ enum jk_fault {
     JK_BUFFER_TOO_SHORT = 7,
     /* 8 is never used again: it was a value above 7FFFFFFF, which no text gives */
     JK_OFFSET_OUT_OF_RANGE = 9,
-    JK_SURROGATE = 10          /* a value from D800 to DFFF in UCS-4, FSS-UTF or UTF-EBCDIC */
+    JK_SURROGATE = 10,         /* a value from D800 to DFFF in UCS-4, FSS-UTF or UTF-EBCDIC */
+    JK_NONCHARACTER = 12       /* FFFE or FFFF, and no other value, in strict conversion and its length alone */
 };
 
 /* A fault in words, for a log or a panel. */
@@ -60,6 +62,7 @@ static inline const char *jk_fault_text(uint32_t fault) {
     case JK_BUFFER_TOO_SHORT: return "a result buffer is too short for the whole result";
     case JK_OFFSET_OUT_OF_RANGE: return "the asked offset lies beyond the text";
     case JK_SURROGATE: return "a surrogate value, D800 to DFFF, is no character";
+    case JK_NONCHARACTER: return "FFFE and FFFF are not converted";
     default: return "a fault that this header does not know";
     }
 }
@@ -106,7 +109,8 @@ typedef struct jk_conversion {
 
 /* Strict conversion. jk_F_to_G writes the text in the other form to the front of dst and leaves its rest untouched;
  * jk_F_to_G_length tells how many code units that takes, and gives no fault 7. A refusal (1; else the fault at the
- * lowest offset, 2 to 6 or 10; else 7) leaves all of dst as it was.
+ * lowest offset, 2 to 6, 10 or 12; else 7) leaves all of dst as it was. What the other calls give as a character is
+ * converted, but for FFFE and FFFF (fault 12) and, to UTF-16, a value above 10FFFF (fault 6).
  *
  * JK_F_TO_G_ROOM(n) is the most code units that a text of n can take. It is a constant where n is one, it evaluates n
  * more than once, and from JK_MAX_UNITS on it stays the same, since longer texts are refused. */
@@ -186,7 +190,8 @@ typedef struct jk_decoding {
 /* Lossy decoding: for each item of the text, in order, its value (JK_MARK_VALUE for a mark) at the front of values and
  * its start at the front of starts; the rest of both is untouched. A text of n code units has at most n items, so n
  * cells each are room enough; fewer cells than items in either buffer is fault 7. A refusal leaves both buffers as they
- * were. The three must not overlap. */
+ * were. The three must not overlap. FFFE and FFFF are characters here, so that a text without a mark may still be one
+ * that strict conversion refuses. */
 jk_decoding jk_fss_utf_decode_lossy(const uint8_t *text, size_t len, uint32_t *values, size_t values_len,
                                     uint32_t *starts, size_t starts_len);
 jk_decoding jk_utf_ebcdic_decode_lossy(const uint8_t *text, size_t len, uint32_t *values, size_t values_len,

@@ -16,7 +16,7 @@ static void expect(int right, const char *what) {
 static const uint8_t ascii[] = {0x41, 0x42};
 static const uint8_t two_bytes[] = {0xDF, 0xBF, 0xDF, 0xBF};
 static const uint8_t control[] = {0x20, 0x20, 0x20}; /* 80 in UTF-EBCDIC */
-static const uint16_t last_unit[] = {0xFFFF, 0xFFFF};
+static const uint16_t last_unit[] = {0xFFFD, 0xFFFD}; /* FFFE and FFFF are not converted */
 static const uint32_t last_value[] = {0x7FFFFFFF};
 static const uint32_t pair[] = {0x10000, 0x10FFFF};
 static const uint8_t zeros[JK_MAX_UNITS + 1] = {0};
@@ -70,10 +70,69 @@ static void limits(void) {
     expect(jk_fss_utf_to_ucs4_length(zeros, JK_MAX_UNITS + 1).fault == JK_SOURCE_TOO_LONG, "more than JK_MAX_UNITS are taken");
 }
 
+/* Room for each form. */
+static union {
+    uint8_t fss_utf[64];
+    uint8_t utf_ebcdic[64];
+    uint16_t utf16[32];
+    uint32_t ucs4[16];
+} result, fresh;
+
+static int twelve_at_1(jk_conversion answer) {
+    return answer.fault == JK_NONCHARACTER && answer.offset == 1 && answer.units == 0;
+}
+
+/* A text whose second item is FFFE or FFFF is not converted, and nothing is written. */
+#define NOT_CONVERTED(text, form, target) \
+    result = fresh; \
+    expect(twelve_at_1(jk_##form##_to_##target##_length(text, COUNT(text))), \
+           "jk_" #form "_to_" #target "_length does not refuse FFFE or FFFF at its place"); \
+    expect(twelve_at_1(jk_##form##_to_##target(text, COUNT(text), result.target, COUNT(result.target))), \
+           "jk_" #form "_to_" #target " does not refuse FFFE or FFFF at its place"); \
+    expect(memcmp(&result, &fresh, sizeof result) == 0, "jk_" #form "_to_" #target " writes where FFFE or FFFF is to be refused")
+
+/* Every other call gives it as a character. */
+#define READ(text, form, expected) \
+    expect(jk_##form##_item_at(text, COUNT(text), 1).kind == JK_CHARACTER && jk_##form##_item_at(text, COUNT(text), 1).value == expected, \
+           "jk_" #form "_item_at does not give FFFE or FFFF"); \
+    expect(same(jk_##form##_item_covering(text, COUNT(text), COUNT(text) - 1), jk_##form##_item_at(text, COUNT(text), 1)), \
+           "jk_" #form "_item_covering does not give FFFE or FFFF"); \
+    expect(jk_##form##_decode_lossy(text, COUNT(text), values, COUNT(values), starts, COUNT(starts)).marks == 0 && values[1] == expected, \
+           "jk_" #form "_decode_lossy does not give FFFE or FFFF")
+
+static void noncharacters(void) {
+    const uint8_t fss_utf[2][4] = {{0x41, 0xEF, 0xBF, 0xBE}, {0x41, 0xEF, 0xBF, 0xBF}};
+    const uint8_t utf_ebcdic[2][5] = {{0xC1, 0xB3, 0xFE, 0xFE, 0xFD}, {0xC1, 0xB3, 0xFE, 0xFE, 0xFE}};
+    const uint16_t utf16[2][2] = {{0x41, 0xFFFE}, {0x41, 0xFFFF}};
+    const uint32_t ucs4[2][2] = {{0x41, 0xFFFE}, {0x41, 0xFFFF}};
+    uint32_t values[8] = {0}, starts[8] = {0};
+    int i;
+    memset(&fresh, 0xEE, sizeof fresh);
+    for (i = 0; i < 2; i++) {
+        NOT_CONVERTED(fss_utf[i], fss_utf, utf_ebcdic);
+        NOT_CONVERTED(fss_utf[i], fss_utf, utf16);
+        NOT_CONVERTED(fss_utf[i], fss_utf, ucs4);
+        NOT_CONVERTED(utf_ebcdic[i], utf_ebcdic, fss_utf);
+        NOT_CONVERTED(utf_ebcdic[i], utf_ebcdic, utf16);
+        NOT_CONVERTED(utf_ebcdic[i], utf_ebcdic, ucs4);
+        NOT_CONVERTED(utf16[i], utf16, fss_utf);
+        NOT_CONVERTED(utf16[i], utf16, utf_ebcdic);
+        NOT_CONVERTED(utf16[i], utf16, ucs4);
+        NOT_CONVERTED(ucs4[i], ucs4, fss_utf);
+        NOT_CONVERTED(ucs4[i], ucs4, utf_ebcdic);
+        NOT_CONVERTED(ucs4[i], ucs4, utf16);
+        READ(fss_utf[i], fss_utf, ucs4[i][1]);
+        READ(utf_ebcdic[i], utf_ebcdic, ucs4[i][1]);
+        READ(utf16[i], utf16, ucs4[i][1]);
+        READ(ucs4[i], ucs4, ucs4[i][1]);
+    }
+}
+
 int main(void) {
     uint32_t number;
     rooms();
     limits();
+    noncharacters();
     for (number = 1; number < 1000; number++)
         if (strcmp(jk_fault_text(number), jk_fault_text(0xFFFFFFFFu)) != 0) printf("%u\n", (unsigned)number);
     return wrong;
