@@ -39,6 +39,25 @@ pub enum Fault {
     /// Fault 10: a surrogate value, D800 to DFFF, in UCS-4, FSS-UTF or
     /// UTF-EBCDIC.
     Surrogate = 10,
+    /// Fault 12: FFFE or FFFF in a strict conversion. It refuses them since a
+    /// client's host stops at them.
+    ///
+    /// Only a conversion and its length give it, and for these two values
+    /// alone: what else Unicode calls a noncharacter, as FDD0 or 1FFFE, is
+    /// converted. To every other call FFFE and FFFF are characters.
+    ///
+    /// ```
+    /// use jiskromet::{fss_utf, Content, Fault, Item, Refusal};
+    ///
+    /// let text = b"leer \xEF\xBF\xBF"; // ends with FFFF
+    /// assert_eq!(
+    ///     fss_utf::to_utf_ebcdic_vec(text),
+    ///     Err(Refusal { fault: Fault::NonCharacter, offset: 5 })
+    /// );
+    /// let shown = Item { offset: 5, length: 3, content: Content::Character(0xFFFF) };
+    /// assert_eq!(fss_utf::item_at(text, 5), Ok(Some(shown)));
+    /// ```
+    NonCharacter = 12,
 }
 
 impl Fault {
@@ -69,6 +88,7 @@ impl Fault {
             7 => Fault::BufferTooShort,
             9 => Fault::OffsetOutOfRange,
             10 => Fault::Surrogate,
+            12 => Fault::NonCharacter,
             _ => return None,
         })
     }
@@ -86,6 +106,7 @@ impl fmt::Display for Fault {
             Fault::BufferTooShort => "a result buffer is too short for the whole result",
             Fault::OffsetOutOfRange => "the asked offset lies beyond the text",
             Fault::Surrogate => "a surrogate value, D800 to DFFF, is no character",
+            Fault::NonCharacter => "FFFE and FFFF are not converted",
         })
     }
 }

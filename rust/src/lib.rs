@@ -52,7 +52,9 @@
 //!   place. A refusal has changed nothing in a lent buffer, and no call relies
 //!   on you having tested the text.
 //! - A strict conversion takes a text without a fault, whole, and no other.
-//!   What comes back from the other form is the text that you sent.
+//!   What comes back from the other form is the text that you sent. FFFE and
+//!   FFFF are a fault to it, [`Fault::NonCharacter`], and characters to every
+//!   other call.
 //! - A damaged stretch costs the characters it hit, and no neighbour.
 //!
 //! These are proved, by machine and for all inputs, of the code in the archive:
@@ -84,7 +86,8 @@
 //! - Offsets and lengths are in code units: bytes in FSS-UTF and UTF-EBCDIC,
 //!   `u16` in UTF-16, `u32` in UCS-4. Byte order plays no part.
 //! - Every `str` is good FSS-UTF, but not every FSS-UTF text a `str`: it has the
-//!   values from 110000 to 7FFFFFFF besides.
+//!   values from 110000 to 7FFFFFFF besides. A `str` with FFFE or FFFF is read,
+//!   but not converted.
 //! - The archive is for x86-64 Linux.
 
 #![deny(missing_docs)]

@@ -23,7 +23,7 @@ macro_rules! conversions {
         /// A text of more than [`MAX_UNITS`](crate::MAX_UNITS) units is refused; else the fault at the
         /// lowest offset decides; else a `dst` that is too short for the whole result is
         /// [`Fault::BufferTooShort`](crate::Fault::BufferTooShort). A refusal leaves all of `dst` as it
-        /// was.
+        /// was. FFFE and FFFF are a fault here, [`Fault::NonCharacter`](crate::Fault::NonCharacter).
         ///
         /// # Examples
         ///
@@ -120,7 +120,7 @@ macro_rules! readers {
         /// For each item of the text, in order, its value stands at the front of `values`
         /// ([`MARK_VALUE`](crate::MARK_VALUE) for a mark) and the offset where it starts at the front of
         /// `starts`; the rest of both is untouched. Characters before and after damage come out as if
-        /// there were none.
+        /// there were none. FFFE and FFFF, which a conversion refuses, are characters here.
         ///
         /// # Errors
         ///

@@ -2,7 +2,8 @@
 //! each value from 0 to 10FFFF but D800 to DFFF.
 //!
 //! Units are numbers: a panel's bytes have to be put together in its byte order
-//! first. FEFF is a character like another.
+//! first. FEFF is a character like another; FFFE, which it becomes in the wrong
+//! order, is refused by a strict conversion.
 //!
 //! ```
 //! use jiskromet::{fss_utf, utf16, Fault, Refusal};
@@ -16,6 +17,12 @@
 //! assert_eq!(
 //!     utf16::to_fss_utf_vec(&[0x34, 0xDD25]),
 //!     Err(Refusal { fault: Fault::StrayTrailing, offset: 1 })
+//! );
+//!
+//! // FEFF and a 4, with their bytes in the wrong order.
+//! assert_eq!(
+//!     utf16::to_fss_utf_vec(&[0xFFFE, 0x3400]),
+//!     Err(Refusal { fault: Fault::NonCharacter, offset: 0 })
 //! );
 //! # Ok::<(), Refusal>(())
 //! ```

@@ -124,6 +124,18 @@ impl<S: Copy, T: Copy + Debug + PartialEq + From<u8>> Pair<S, T> {
         }
     }
 
+    /// Every call refuses one item by fault 12 wherever it stands among others,
+    /// many of which a call may pass in one step.
+    fn turns_away(&self, item: &[S], others: &[&[S]]) {
+        for other in others {
+            for count in [0, 1, 7, 16, 33, 100] {
+                let before = other.repeat(count);
+                let text = [&before, item, &before, item].concat();
+                self.refuses(&text, Fault::NonCharacter, before.len());
+            }
+        }
+    }
+
     /// The room that a text can take is what this one takes.
     fn fills(&self, text: &[S]) {
         assert_eq!((self.length)(text), Ok((self.max_length)(text.len())));
@@ -315,7 +327,7 @@ fn fss_utf_converts() {
 
 #[test]
 fn fss_utf_refuses() {
-    let cases: [(&[u8], Fault, usize); 7] = [
+    let cases: [(&[u8], Fault, usize); 8] = [
         (&[0x41, 0xE2, 0x89, 0x41], Fault::MissingTrailing, 1),
         (&[0xC2, 0xA9, 0x80], Fault::StrayTrailing, 2),
         (&[0x41, 0x42, 0xFE], Fault::InvalidUnit, 2),
@@ -323,6 +335,7 @@ fn fss_utf_refuses() {
         (&[0xFC], Fault::MissingTrailing, 0),
         (&[0x41, 0xED, 0xA0, 0x80], Fault::Surrogate, 1),
         (&[0xF0, 0x8D, 0xA0, 0x80], Fault::Overlong, 0),
+        (&[0xF0, 0x8F, 0xBF, 0xBF], Fault::Overlong, 0),
     ];
     for (text, fault, offset) in cases {
         to_utf_ebcdic!(fss_utf).refuses(text, fault, offset);
@@ -388,12 +401,13 @@ fn utf_ebcdic_converts() {
 
 #[test]
 fn utf_ebcdic_refuses() {
-    let cases: [(&[u8], Fault, usize); 5] = [
+    let cases: [(&[u8], Fault, usize); 6] = [
         (&[0xF4, 0x9A, 0x80, 0xC1], Fault::MissingTrailing, 1),
         (&[0x47, 0x80, 0x80], Fault::StrayTrailing, 2),
         (&[0xC1, 0x8A, 0xFE, 0xFE], Fault::Overlong, 1),
         (&[0xE1], Fault::MissingTrailing, 0),
         (&[0xC1, 0xB3, 0xDD, 0x80, 0x80], Fault::Surrogate, 1),
+        (&[0x6A, 0x8C, 0xFE, 0xFE, 0xFE], Fault::Overlong, 0),
     ];
     for (text, fault, offset) in cases {
         to_fss_utf!(utf_ebcdic).refuses(text, fault, offset);
@@ -444,12 +458,12 @@ fn utf16_converts() {
     host.gives(UTF16, UTF_EBCDIC);
     gateway.gives(UTF16, UCS4);
     gateway.gives(
-        &[0xFEFF, 0xFFFF, 0xDBFF, 0xDFFF],
-        &[0xFEFF, 0xFFFF, 0x10_FFFF],
+        &[0xFEFF, 0xFFFD, 0xDBFF, 0xDFFF],
+        &[0xFEFF, 0xFFFD, 0x10_FFFF],
     );
 
-    controller.fills(&[0xFFFF]);
-    host.fills(&[0xFFFF]);
+    controller.fills(&[0xFFFD]);
+    host.fills(&[0xFFFD]);
     gateway.fills(&[0x41]);
     controller.keeps_the_limits(0, 0);
     host.keeps_the_limits(0, 0);
@@ -552,6 +566,113 @@ fn ucs4_reads() {
     reader.keeps_the_limits(0);
 }
 
+/// FFFE and FFFF in each form.
+const FSS_UTF_TWO: [&[u8]; 2] = [&[0xEF, 0xBF, 0xBE], &[0xEF, 0xBF, 0xBF]];
+const UTF_EBCDIC_TWO: [&[u8]; 2] = [&[0xB3, 0xFE, 0xFE, 0xFD], &[0xB3, 0xFE, 0xFE, 0xFE]];
+const UTF16_TWO: [&[u16]; 2] = [&[0xFFFE], &[0xFFFF]];
+const UCS4_TWO: [&[u32]; 2] = [&[0xFFFE], &[0xFFFF]];
+
+#[test]
+fn fffe_and_ffff_are_not_converted() {
+    // The others are 34, 20AC and FFFD.
+    let others: [&[u8]; 3] = [&[0x34], &[0xE2, 0x82, 0xAC], &[0xEF, 0xBF, 0xBD]];
+    for item in FSS_UTF_TWO {
+        to_utf_ebcdic!(fss_utf).turns_away(item, &others);
+        to_utf16!(fss_utf).turns_away(item, &others);
+        to_ucs4!(fss_utf).turns_away(item, &others);
+    }
+    let others: [&[u8]; 3] = [&[0xF4], &[0x8B, 0x90, 0xAE], &[0xB3, 0xFE, 0xFE, 0xFC]];
+    for item in UTF_EBCDIC_TWO {
+        to_fss_utf!(utf_ebcdic).turns_away(item, &others);
+        to_utf16!(utf_ebcdic).turns_away(item, &others);
+        to_ucs4!(utf_ebcdic).turns_away(item, &others);
+    }
+    let others: [&[u16]; 3] = [&[0x34], &[0x20AC], &[0xFFFD]];
+    for item in UTF16_TWO {
+        to_fss_utf!(utf16).turns_away(item, &others);
+        to_utf_ebcdic!(utf16).turns_away(item, &others);
+        to_ucs4!(utf16).turns_away(item, &others);
+    }
+    let others: [&[u32]; 3] = [&[0x34], &[0x20AC], &[0xFFFD]];
+    for item in UCS4_TWO {
+        to_fss_utf!(ucs4).turns_away(item, &others);
+        to_utf_ebcdic!(ucs4).turns_away(item, &others);
+        to_utf16!(ucs4).turns_away(item, &others);
+    }
+}
+
+/// Of FFFE or FFFF and another fault, the one at the lower offset decides; a
+/// text that is too long is refused before either.
+#[test]
+fn fffe_and_ffff_take_their_turn() {
+    for value in [0xFFFE, 0xFFFF] {
+        let panel = to_utf16!(ucs4);
+        for (other, fault) in [
+            (0x8000_0000, Fault::InvalidUnit),
+            (0xD800, Fault::Surrogate),
+            (0x11_0000, Fault::Unrepresentable),
+        ] {
+            panel.refuses(&[0x41, value, other], Fault::NonCharacter, 1);
+            panel.refuses(&[0x41, other, value], fault, 1);
+        }
+        panel.refuses(&[value; MAX_UNITS], Fault::NonCharacter, 0);
+        panel.refuses(&[value; MAX_UNITS + 1], Fault::SourceTooLong, 0);
+    }
+}
+
+#[test]
+fn fffe_and_ffff_are_read() {
+    for (index, value) in [(0, 0xFFFE), (1, 0xFFFF)] {
+        let text = [&[0x34], FSS_UTF_TWO[index], &[0x34, 0x80]].concat();
+        let items = |length| {
+            [
+                character(1, 0x34),
+                character(length, value),
+                character(1, 0x34),
+                mark(1, Fault::StrayTrailing),
+            ]
+        };
+        reader!(fss_utf).reads(&text, &items(3));
+        let text = [&[0xF4], UTF_EBCDIC_TWO[index], &[0xF4, 0x80]].concat();
+        reader!(utf_ebcdic).reads(&text, &items(4));
+        let text = [&[0x34], UTF16_TWO[index], &[0x34, 0xDC00]].concat();
+        reader!(utf16).reads(&text, &items(1));
+        let text = [&[0x34], UCS4_TWO[index], &[0x34]].concat();
+        reader!(ucs4).reads(&text, &items(1)[..3]);
+    }
+}
+
+/// What comes near to FFFE and FFFF is converted: the values 3FFF (EF BF BF in
+/// UTF-EBCDIC's I8), FDD0, FEFF, FFFD, 10000, 1FFFE and 1FFFF in each form.
+#[test]
+fn neighbours_of_fffe_and_ffff_are_converted() {
+    let controller = [
+        0xE3, 0xBF, 0xBF, 0xEF, 0xB7, 0x90, 0xEF, 0xBB, 0xBF, 0xEF, 0xBF, 0xBD, 0xF0, 0x90, 0x80,
+        0x80, 0xF0, 0x9F, 0xBF, 0xBE, 0xF0, 0x9F, 0xBF, 0xBF,
+    ];
+    let host = [
+        0xFB, 0xFE, 0xFE, 0xB3, 0xFE, 0xBC, 0xBF, 0xB3, 0xFE, 0xDE, 0xFE, 0xB3, 0xFE, 0xFE, 0xFC,
+        0xB4, 0x80, 0x80, 0x80, 0xB5, 0xFE, 0xFE, 0xFD, 0xB5, 0xFE, 0xFE, 0xFE,
+    ];
+    let panel = [
+        0x3FFF, 0xFDD0, 0xFEFF, 0xFFFD, 0xD800, 0xDC00, 0xD83F, 0xDFFE, 0xD83F, 0xDFFF,
+    ];
+    let gateway = [0x3FFF, 0xFDD0, 0xFEFF, 0xFFFD, 0x1_0000, 0x1_FFFE, 0x1_FFFF];
+
+    to_utf_ebcdic!(fss_utf).gives(&controller, &host);
+    to_utf16!(fss_utf).gives(&controller, &panel);
+    to_ucs4!(fss_utf).gives(&controller, &gateway);
+    to_fss_utf!(utf_ebcdic).gives(&host, &controller);
+    to_utf16!(utf_ebcdic).gives(&host, &panel);
+    to_ucs4!(utf_ebcdic).gives(&host, &gateway);
+    to_fss_utf!(utf16).gives(&panel, &controller);
+    to_utf_ebcdic!(utf16).gives(&panel, &host);
+    to_ucs4!(utf16).gives(&panel, &gateway);
+    to_fss_utf!(ucs4).gives(&gateway, &controller);
+    to_utf_ebcdic!(ucs4).gives(&gateway, &host);
+    to_utf16!(ucs4).gives(&gateway, &panel);
+}
+
 /// A result may be longer than a text can be; it is then not read again.
 #[test]
 fn a_result_beyond_the_limit_is_not_read_again() {
@@ -605,12 +726,13 @@ fn faults_have_their_numbers_and_words() {
         (7, Fault::BufferTooShort),
         (9, Fault::OffsetOutOfRange),
         (10, Fault::Surrogate),
+        (12, Fault::NonCharacter),
     ] {
         assert_eq!(fault.number(), number);
         assert_eq!(Fault::from_number(number), Some(fault));
         assert!(HEADER.contains(&format!(": return \"{fault}\";")));
     }
-    for number in [0, 8, 11, u32::MAX] {
+    for number in [0, 8, 11, 13, u32::MAX] {
         assert_eq!(Fault::from_number(number), None);
     }
 
