@@ -1,7 +1,7 @@
 /* A gateway's job: alarm lines in FSS-UTF come in, damaged ones among them; the maintenance host takes UTF-EBCDIC and the
  * display panel a row of UTF-16. For each line this prints the bytes for the host and the units for the panel, cut where
  * the row is full, but not within a character. Where one of them refuses, it prints the fault with its place and, of a
- * damaged line, what can still be shown.
+ * line that the host refuses, what can still be shown.
  *
  *     gcc -I include examples/gateway.c target/staticlib/libjiskromet.a -o gateway
  *     ./gateway < examples/alarms.txt
@@ -44,7 +44,7 @@ static void print_fault(const char *who, jk_conversion answer) {
     printf("  %s: fault %u at byte %lu, %s\n", who, (unsigned)answer.fault, (unsigned long)answer.offset, jk_fault_text(answer.fault));
 }
 
-/* What is left of a damaged line: characters as they are, or as their value outside ASCII; each mark with its place. */
+/* What can be shown of a refused line: characters as they are, or as their value outside ASCII; each mark with its place. */
 static void show(size_t length) {
     jk_decoding answer = jk_fss_utf_decode_lossy(line, length, values, CELLS(values), starts, CELLS(starts));
     if (answer.fault != JK_NO_FAULT) return; /* fault 1: nothing is read */
