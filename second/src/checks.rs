@@ -11,6 +11,7 @@ pub mod lossy;
 pub mod published;
 pub mod random_texts;
 mod reserved;
+pub mod turned_away;
 pub mod units;
 pub mod walking;
 

@@ -21,7 +21,7 @@ use std::process::ExitCode;
 
 use checks::{
     acceptance, boundaries, conversion, covering, limits, listing, lossy, published, random_texts,
-    units, walking,
+    turned_away, units, walking,
 };
 use report::Report;
 
@@ -85,6 +85,7 @@ fn main() -> ExitCode {
     report.run("covering items", covering::texts::check);
     report.run("covering locality", covering::locality::check);
     report.run("covering limits", covering::limits::check);
+    report.run("FFFE and FFFF", turned_away::check);
     if let Some(program) = &arguments.listing {
         report.run("listing program", |group| listing::check(group, program));
     }

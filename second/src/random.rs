@@ -1,8 +1,8 @@
 //! Random texts, good and damaged, from a fixed seed.
 
 use crate::reference::{
-    is_surrogate, Form, FssUtf, Layout, Ucs4, Utf16, UtfEbcdic, FSS_UTF, HIGHEST_VALUE, I8,
-    I8_TO_UTF_EBCDIC,
+    is_surrogate, is_turned_away, Form, FssUtf, Layout, Ucs4, Utf16, UtfEbcdic, FSS_UTF,
+    HIGHEST_VALUE, I8, I8_TO_UTF_EBCDIC,
 };
 
 /// Every run draws the same texts.
@@ -78,12 +78,13 @@ fn telling_byte(layout: &Layout, random: &mut Random) -> u8 {
     }
 }
 
-/// A value that is a character: one in eight stands next to the surrogates.
+/// A value that is a character: one in eight stands next to the surrogates or
+/// is FFFE or FFFF.
 fn layout_value(layout: &Layout, random: &mut Random) -> u32 {
     loop {
         let row = &layout.rows[random.below(layout.rows.len())];
         let value = match random.below(8) {
-            0 => random.pick(&[0xD7FE, 0xD7FF, 0xE000, 0xE001]),
+            0 => random.pick(&[0xD7FE, 0xD7FF, 0xE000, 0xE001, 0xFFFE, 0xFFFF]),
             _ => near_ends(random, row.lowest, row.highest),
         };
         if !is_surrogate(value) {
@@ -216,8 +217,8 @@ pub fn draw<F: Drawn>(text: &mut Vec<F::Unit>, longest: usize, random: &mut Rand
     text.truncate(longest);
 }
 
-/// Adds characters that both forms hold until the text would outgrow `longest`
-/// units.
+/// Adds characters that a conversion accepts, which both forms hold, until the
+/// text would outgrow `longest` units.
 pub fn add_common<F: Drawn, G: Drawn>(
     text: &mut Vec<F::Unit>,
     longest: usize,
@@ -231,6 +232,9 @@ pub fn add_common<F: Drawn, G: Drawn>(
         let (Some(legal), Some(_)) = (F::encode(value), G::encode(value)) else {
             continue;
         };
+        if is_turned_away(value) {
+            continue;
+        }
         if text.len() + legal.len() > longest {
             return;
         }
@@ -238,10 +242,10 @@ pub fn add_common<F: Drawn, G: Drawn>(
     }
 }
 
-/// `draw` for a conversion: half of the texts have characters that both forms
-/// hold, with or without one fault among them.
+/// `draw` for a conversion: more than half of the texts have characters that it
+/// accepts, with or without a fault among them.
 pub fn draw_for<F: Drawn, G: Drawn>(text: &mut Vec<F::Unit>, longest: usize, random: &mut Random) {
-    let way = random.below(8);
+    let way = random.below(9);
     if way < 4 {
         return draw::<F>(text, longest, random);
     }
@@ -250,13 +254,21 @@ pub fn draw_for<F: Drawn, G: Drawn>(text: &mut Vec<F::Unit>, longest: usize, ran
     add_common::<F, G>(text, longest, random);
     match way {
         4 => damage::<F>(text, random),
-        5 => {
-            // A value that the target may not hold, between two texts.
-            let value = F::value(random);
-            let legal = F::encode(value).expect("a drawn value has an encoding");
+        5 | 6 => {
+            // A value that the target may not hold, or one that is turned away,
+            // between two texts.
+            let value = match way {
+                5 => F::value(random),
+                _ => random.pick(&[0xFFFE, 0xFFFF]),
+            };
+            let legal = F::encode(value).expect("the form holds it");
             text.extend_from_slice(&legal);
             let longest = text.len() + random.below(8);
             add_common::<F, G>(text, longest, random);
+            if way == 6 && random.below(2) == 0 {
+                // Another fault before it or behind it.
+                damage::<F>(text, random);
+            }
         }
         _ => {}
     }

@@ -8,7 +8,7 @@ mod covering;
 mod exchange;
 mod lossy;
 
-pub use conversion::{convert, most_units, written, Converted, Refusal};
+pub use conversion::{convert, is_turned_away, most_units, written, Converted, Refusal};
 pub use covering::{item_covering, items_of_units};
 pub use exchange::{I8_TO_UTF_EBCDIC, UTF_EBCDIC_TO_I8};
 pub use lossy::{decode_lossy, given, Decoded, Mended, MARK_VALUE};

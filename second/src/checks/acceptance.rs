@@ -2,7 +2,7 @@
 //! the other forms, is read mended, and has its items found as well.
 
 use super::conversion::ToOthers;
-use super::{character, each_form, from_i8, mark, one_character, one_value, three_ways};
+use super::{character, each_form, from_i8, mark, one_character, one_value, three_ways, Told};
 use crate::library::{JkItem, Linked};
 use crate::reference::{
     Form, FssUtf, Reading, Role, Ucs4, Utf16, UtfEbcdic, FSS_UTF, HIGHEST_VALUE, I8,
@@ -15,8 +15,9 @@ pub fn check(group: &mut Group) {
     limits_of_lengths(group);
     other_converters(group);
     items(group);
-    each_form!(carried(group));
+    each_form!(still_read(group));
     surrogates(group);
+    turned_away(group);
     flags(group);
     free_bits(group);
     each_form!(empty(group));
@@ -52,7 +53,8 @@ fn starred(group: &mut Group) {
 }
 
 /// "Both sides of limits", and the limits of the layouts that are not spelled
-/// out there but stand in the table.
+/// out there but stand in the table. FFFF is read, and by request 110 refused
+/// in conversion.
 fn limits_of_lengths(group: &mut Group) {
     let source = "both sides of limits";
     let fss_utf: [(u32, &[u32]); 12] = [
@@ -234,13 +236,14 @@ fn items(group: &mut Group) {
     );
 }
 
-/// FEFF, FFFE and FFFF are carried.
-fn carried<F: ToOthers>(group: &mut Group) {
+/// FEFF, FFFE and FFFF are characters, which every reading gives; request 110
+/// has conversion refuse the last two.
+fn still_read<F: ToOthers>(group: &mut Group) {
     for value in [0xFEFF, 0xFFFE, 0xFFFF] {
         match F::encode(value) {
             Some(legal) => {
                 let units: Vec<u32> = legal.iter().map(|&unit| unit.into()).collect();
-                one_character::<F>(group, "a value that is carried", value, &units);
+                one_character::<F>(group, "a value that is read", value, &units);
             }
             None => group.check(false, || {
                 format!("the reference has no encoding of {value:X} in {}", F::NAME)
@@ -295,6 +298,91 @@ fn surrogates(group: &mut Group) {
     three_ways::<FssUtf>(group, source, &[0xED, 0xA0, 0x42], &cut);
     let trailing = [mark(10, 3), mark(3, 1)];
     three_ways::<FssUtf>(group, source, &[0xED, 0xA0, 0x80, 0x80], &trailing);
+}
+
+/// Request 110: the readings "keep showing them as characters", between others
+/// and between marks; what conversion makes of each text follows from its items.
+fn turned_away(group: &mut Group) {
+    let source = "request 110";
+    let fss_utf: [(&[u32], &[Told]); 7] = [
+        (
+            &[0xEF, 0xBF, 0xBE, 0xEF, 0xBF, 0xBF],
+            &[character(0xFFFE, 3), character(0xFFFF, 3)],
+        ),
+        (
+            &[0x41, 0xEF, 0xBF, 0xBD, 0xEF, 0xBF, 0xBF, 0x42],
+            &[
+                character(0x41, 1),
+                character(0xFFFD, 3),
+                character(0xFFFF, 3),
+                character(0x42, 1),
+            ],
+        ),
+        (
+            &[0xED, 0xA0, 0x80, 0xEF, 0xBF, 0xBF],
+            &[mark(10, 3), character(0xFFFF, 3)],
+        ),
+        (
+            &[0xEF, 0xBF, 0xBF, 0xED, 0xA0, 0x80],
+            &[character(0xFFFF, 3), mark(10, 3)],
+        ),
+        (
+            &[0xEF, 0xBF, 0xEF, 0xBF, 0xBE, 0xBF],
+            &[mark(2, 2), character(0xFFFE, 3), mark(3, 1)],
+        ),
+        (
+            &[0xF0, 0x8F, 0xBF, 0xBF, 0xEF, 0xBF, 0xBF],
+            &[mark(5, 4), character(0xFFFF, 3)],
+        ),
+        (
+            &[0xF4, 0x90, 0x80, 0x80, 0xEF, 0xBF, 0xBF],
+            &[character(0x11_0000, 4), character(0xFFFF, 3)],
+        ),
+    ];
+    for (bytes, read) in fss_utf {
+        three_ways::<FssUtf>(group, source, bytes, read);
+    }
+
+    let i8_bytes: [(&[u32], &[Told]); 3] = [
+        (
+            &[0xEF, 0xBF, 0xBF, 0xF1, 0xBF, 0xBF, 0xBF, 0x41],
+            &[
+                character(0x3FFF, 3),
+                character(0xFFFF, 4),
+                character(0x41, 1),
+            ],
+        ),
+        (
+            &[0xF1, 0xBF, 0xBF, 0xF1, 0xBF, 0xBF, 0xBE, 0xBF],
+            &[mark(2, 3), character(0xFFFE, 4), mark(3, 1)],
+        ),
+        (
+            &[0xF8, 0xA1, 0xBF, 0xBF, 0xBF, 0xF1, 0xBF, 0xBF, 0xBF],
+            &[mark(5, 5), character(0xFFFF, 4)],
+        ),
+    ];
+    for (bytes, read) in i8_bytes {
+        three_ways::<UtfEbcdic>(group, source, &from_i8(bytes), read);
+    }
+
+    let units = [0xFFFE, 0xD83F, 0xFFFF, 0xD83F, 0xDFFF, 0xDFFF];
+    let read = [
+        character(0xFFFE, 1),
+        mark(2, 1),
+        character(0xFFFF, 1),
+        character(0x1_FFFF, 2),
+        mark(3, 1),
+    ];
+    three_ways::<Utf16>(group, source, &units, &read);
+    let units = [0x1_FFFE, 0xFFFE, 0xDFFF, 0xFFFF, 0xFFFF_FFFF];
+    let read = [
+        character(0x1_FFFE, 1),
+        character(0xFFFE, 1),
+        mark(10, 1),
+        character(0xFFFF, 1),
+        mark(4, 1),
+    ];
+    three_ways::<Ucs4>(group, source, &units, &read);
 }
 
 /// Document 01's flag of a UTF-EBCDIC byte, by the words of its rule.

@@ -71,8 +71,10 @@ fn of_items<G: Form>(told: &[Told]) -> Converted<G> {
     let mut offset = 0;
     for &(content, length) in told {
         let legal = match content {
-            Content::Character(value) => G::encode(value).ok_or(6),
             Content::Mark(fault) => Err(fault),
+            // Request 110, in numbers of its own: the reference is held to it.
+            Content::Character(0xFFFE | 0xFFFF) => Err(12),
+            Content::Character(value) => G::encode(value).ok_or(6),
         };
         result.extend_from_slice(&legal.map_err(|fault| Refusal { fault, offset })?);
         offset += length;
@@ -88,6 +90,17 @@ pub fn three_ways<F: LinkedTo<G> + Drawn, G: LinkedTo<F>>(
     text: &[F::Unit],
     expected: &Converted<G>,
 ) {
+    reference_gives::<F, G>(group, &source, text, expected);
+    converts::<F, G>(group, source, text, expected);
+}
+
+/// Holds the reference's conversion of a text to what it shall give.
+pub fn reference_gives<F: Form, G: Form>(
+    group: &mut Group,
+    source: impl Display,
+    text: &[F::Unit],
+    expected: &Converted<G>,
+) {
     let reference = convert::<F, G>(text);
     group.check(reference == *expected, || {
         format!(
@@ -97,7 +110,6 @@ pub fn three_ways<F: LinkedTo<G> + Drawn, G: LinkedTo<F>>(
             told_result::<G>(&reference),
         )
     });
-    converts::<F, G>(group, source, text, expected);
 }
 
 /// `converts` with what the reference gives.
@@ -118,6 +130,30 @@ pub fn converts<F: LinkedTo<G> + Drawn, G: LinkedTo<F>>(
     text: &[F::Unit],
     expected: &Converted<G>,
 ) {
+    measures::<F, G>(group, &source, text, expected);
+    for room in rooms::<F, G>(text, expected) {
+        fills::<F, G>(group, &source, text, expected, room);
+    }
+    if let Ok(result) = expected {
+        let most = most_units::<F, G>(text.len());
+        group.check(result.len() <= most, || {
+            format!(
+                "{source}: {} has {} units, more than the {most} of the section Room",
+                pair::<F, G>(text),
+                result.len(),
+            )
+        });
+        back::<F, G>(group, source, text, result);
+    }
+}
+
+/// Holds the library's measure of a text to what it shall give.
+pub fn measures<F: LinkedTo<G> + Drawn, G: Form>(
+    group: &mut Group,
+    source: impl Display,
+    text: &[F::Unit],
+    expected: &Converted<G>,
+) {
     let mut lent = Lent::<F>::text(text);
     // SAFETY: the pointer is to `text.len()` lent units.
     let came = unsafe { F::raw_measure(lent.pointer(), text.len()) };
@@ -133,21 +169,6 @@ pub fn converts<F: LinkedTo<G> + Drawn, G: LinkedTo<F>>(
     group.check(lent.holds(), || {
         format!("{source}: measure of {} changed it", pair::<F, G>(text))
     });
-
-    for room in rooms::<F, G>(text, expected) {
-        fills::<F, G>(group, &source, text, expected, room);
-    }
-    if let Ok(result) = expected {
-        let most = most_units::<F, G>(text.len());
-        group.check(result.len() <= most, || {
-            format!(
-                "{source}: {} has {} units, more than the {most} of the section Room",
-                pair::<F, G>(text),
-                result.len(),
-            )
-        });
-        back::<F, G>(group, source, text, result);
-    }
 }
 
 /// The room for a result: none, half of what it needs, one cell too few, just

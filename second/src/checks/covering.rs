@@ -29,7 +29,7 @@ fn longest_character<F: Drawn>() -> (u32, Encoding<F::Unit>) {
 }
 
 /// Holds the library's answer for one place of a text to what it shall be.
-fn answer<F: Linked>(
+pub fn answer<F: Linked>(
     group: &mut Group,
     source: impl Display,
     text: &[F::Unit],

@@ -32,6 +32,16 @@ START LENGTH READ
 items 5 faults 2
 ";
 
+/// Request 110 leaves the listing as it was.
+const STILL_LISTED: [u8; 7] = [0x41, 0xEF, 0xBF, 0xBE, 0xEF, 0xBF, 0xBF];
+const STILL_LISTED_LISTING: &str = "\
+START LENGTH READ
+0 1 U+00000041
+1 3 U+0000FFFE
+4 3 U+0000FFFF
+items 3 faults 0
+";
+
 pub fn check(group: &mut Group, program: &Path) {
     // A bare name is a file here, not one on the search path.
     let program = path::absolute(program).unwrap_or_else(|_| program.to_path_buf());
@@ -51,6 +61,14 @@ pub fn check(group: &mut Group, program: &Path) {
     group.check(own == EXAMPLE_LISTING, || {
         format!("the reference lists document 01's example as {own}")
     });
+
+    compare(
+        group,
+        "FFFE and FFFF",
+        &STILL_LISTED,
+        STILL_LISTED_LISTING,
+        run(&program, Feed::Whole(&STILL_LISTED)),
+    );
 
     for (source, text) in texts() {
         compare(

@@ -9,11 +9,17 @@ pub struct Refusal {
     pub offset: usize,
 }
 
+/// Request 110: "FFFE and FFFF turned away" by strict conversion and its
+/// measure. They are characters all the same: reading gives them.
+pub fn is_turned_away(value: u32) -> bool {
+    value == 0xFFFE || value == 0xFFFF
+}
+
 /// What a text gives in the form `G`, where the room is not short.
 pub type Converted<G> = Result<Vec<<G as Form>::Unit>, Refusal>;
 
-/// A text in another form: fault 1 first, then the first item that is a mark
-/// or a character that the target cannot hold.
+/// A text in another form: fault 1 first, then the first item that is a mark,
+/// a character that is turned away, or one that the target cannot hold.
 pub fn convert<F: Form, G: Form>(text: &[F::Unit]) -> Converted<G> {
     if text.len() > LONGEST_TEXT {
         return Err(Refusal {
@@ -29,6 +35,7 @@ pub fn convert<F: Form, G: Form>(text: &[F::Unit]) -> Converted<G> {
         };
         match item.content {
             Content::Mark(fault) => return Err(refusal(fault)),
+            Content::Character(value) if is_turned_away(value) => return Err(refusal(12)),
             Content::Character(value) => {
                 let legal = G::encode(value).ok_or(refusal(6))?;
                 result.extend_from_slice(&legal);

@@ -11,8 +11,12 @@ use crate::report::Group;
 pub fn check(group: &mut Group) {
     each_pair!(each_place(group));
     each_pair!(two_faults(group));
-    too_long_and_not_held::<FssUtf>(group, &FSS_UTF, |bytes| bytes.to_vec());
-    too_long_and_not_held::<UtfEbcdic>(group, &I8, |bytes| exchanged(bytes).to_vec());
+    too_long_first::<FssUtf, UtfEbcdic>(group, &FSS_UTF, |bytes| bytes.to_vec());
+    too_long_first::<FssUtf, Utf16>(group, &FSS_UTF, |bytes| bytes.to_vec());
+    too_long_first::<FssUtf, Ucs4>(group, &FSS_UTF, |bytes| bytes.to_vec());
+    too_long_first::<UtfEbcdic, FssUtf>(group, &I8, |bytes| exchanged(bytes).to_vec());
+    too_long_first::<UtfEbcdic, Utf16>(group, &I8, |bytes| exchanged(bytes).to_vec());
+    too_long_first::<UtfEbcdic, Ucs4>(group, &I8, |bytes| exchanged(bytes).to_vec());
     each_pair!(far_places(group));
 }
 
@@ -97,13 +101,17 @@ impl Marked for Ucs4 {
 /// Values that are no characters.
 const SURROGATES: [u32; 4] = [0xD800, 0xDBFF, 0xDC00, 0xDFFF];
 
+/// Characters that are turned away, whatever the target.
+const TURNED_AWAY: [u32; 2] = [0xFFFE, 0xFFFF];
+
 /// Characters that UTF-16 cannot hold.
 const NOT_IN_UTF_16: [u32; 5] = [0x11_0000, 0x1F_FFFF, 0x20_0000, 0x400_0000, 0x7FFF_FFFF];
 
-/// The faulty items of a pair: the form's marks, and characters that the target
-/// cannot hold.
+/// The faulty items of a pair: the form's marks, characters that are turned
+/// away, and those that the target cannot hold.
 fn faulty_items<F: Marked, G: Form>() -> Vec<Faulty<F::Unit>> {
     let mut items = F::marked();
+    items.extend(TURNED_AWAY.map(|value| faulty(good::<F>(&[value]), 12)));
     if G::NAME == Utf16::NAME {
         items.extend(NOT_IN_UTF_16.map(|value| faulty(good::<F>(&[value]), 6)));
     }
@@ -118,10 +126,10 @@ pub fn one_of_each_fault<F: Marked, G: Form>() -> Vec<Faulty<F::Unit>> {
     items
 }
 
-/// Values that every form holds, with every length among their encodings that
-/// a value of UTF-16 has.
+/// Values that every conversion accepts, with every length among their
+/// encodings that a value of UTF-16 has.
 const HELD: [u32; 10] = [
-    0x41, 0x10_FFFF, 0x9F, 0xA9, 0x400, 0x2260, 0x1_0000, 0x4000, 0xFFFF, 0x0,
+    0x41, 0x10_FFFF, 0x9F, 0xA9, 0x400, 0x2260, 0x1_0000, 0x4000, 0xFFFD, 0x0,
 ];
 
 fn good<F: Form>(values: &[u32]) -> Vec<F::Unit> {
@@ -172,15 +180,17 @@ fn two_faults<F: Marked + LinkedTo<G> + Drawn, G: LinkedTo<F>>(group: &mut Group
     }
 }
 
-/// At one place 5 is tried before 10 and 6: a sequence longer than its value
-/// needs, of a surrogate or of a character that UTF-16 cannot hold.
-fn too_long_and_not_held<F>(group: &mut Group, layout: &Layout, to_form: fn(&[u8]) -> Vec<u8>)
+/// At one place 5 is tried before 10, 12 and 6: a sequence longer than its value
+/// needs, of a surrogate, of a character that is turned away, or of one that
+/// UTF-16 cannot hold.
+fn too_long_first<F, G>(group: &mut Group, layout: &Layout, to_form: fn(&[u8]) -> Vec<u8>)
 where
-    F: LinkedTo<Utf16> + Drawn<Unit = u8>,
-    Utf16: LinkedTo<F>,
+    F: LinkedTo<G> + Drawn<Unit = u8>,
+    G: LinkedTo<F>,
 {
     let before = good::<F>(&HELD[..3]);
-    for value in SURROGATES.into_iter().chain(NOT_IN_UTF_16) {
+    let values = SURROGATES.into_iter().chain(TURNED_AWAY);
+    for value in values.chain(NOT_IN_UTF_16) {
         let shortest = F::shortest(value).expect("a sequence of it").len();
         for row in layout.rows.iter().filter(|row| row.length > shortest) {
             let spelled = layout.spell(row, value).expect("a value below the row's");
@@ -189,7 +199,7 @@ where
                 fault: 5,
                 offset: before.len(),
             });
-            three_ways::<F, Utf16>(group, "too long and not held", &text, &expected);
+            three_ways::<F, G>(group, "too long comes first", &text, &expected);
         }
     }
 }
@@ -215,13 +225,13 @@ fn far_places<F: Marked + LinkedTo<G> + Drawn, G: LinkedTo<F>>(group: &mut Group
 
     let tried: Vec<u32> = items.iter().map(|item| item.fault).collect();
     let can_be: &[u32] = match (F::NAME, G::NAME) {
-        (FssUtf::NAME, Utf16::NAME) => &[2, 3, 4, 5, 6, 10],
-        (FssUtf::NAME, _) => &[2, 3, 4, 5, 10],
-        (UtfEbcdic::NAME, Utf16::NAME) => &[2, 3, 5, 6, 10],
-        (UtfEbcdic::NAME, _) => &[2, 3, 5, 10],
-        (Utf16::NAME, _) => &[2, 3],
-        (_, Utf16::NAME) => &[4, 6, 10],
-        _ => &[4, 10],
+        (FssUtf::NAME, Utf16::NAME) => &[2, 3, 4, 5, 6, 10, 12],
+        (FssUtf::NAME, _) => &[2, 3, 4, 5, 10, 12],
+        (UtfEbcdic::NAME, Utf16::NAME) => &[2, 3, 5, 6, 10, 12],
+        (UtfEbcdic::NAME, _) => &[2, 3, 5, 10, 12],
+        (Utf16::NAME, _) => &[2, 3, 12],
+        (_, Utf16::NAME) => &[4, 6, 10, 12],
+        _ => &[4, 10, 12],
     };
     group.check(tried == can_be, || {
         format!("{} to {}: faults {tried:?} were tried", F::NAME, G::NAME)

@@ -66,7 +66,7 @@ fn empty<F: LinkedTo<G> + Drawn, G: LinkedTo<F>>(group: &mut Group) {
 }
 
 /// Accepted texts of exactly so many units: of one unit all through, and of
-/// characters drawn at random that both forms hold.
+/// characters drawn at random.
 fn accepted<F: Drawn, G: Drawn>(length: usize) -> Vec<Vec<F::Unit>> {
     let single = F::encode(0x41).expect("every form holds it")[0];
     let mut random = Random::new(0x800 + length as u64);

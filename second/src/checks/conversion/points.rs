@@ -16,8 +16,9 @@ type Spelled = (
 );
 
 /// The acceptance points, the lowest and highest value of each length in each
-/// form, and the values beside the surrogates.
-const SPELLED: [Spelled; 31] = [
+/// form, the values beside the surrogates, and those beside FFFE and FFFF or
+/// like them.
+const SPELLED: [Spelled; 36] = [
     ("0", "00", "00", Some("0000")),
     ("41", "41", "41", Some("0041")),
     ("7F", "7F", "7F", Some("007F")),
@@ -34,12 +35,17 @@ const SPELLED: [Spelled; 31] = [
     ("4000", "E4 80 80", "F0 B0 A0 A0", Some("4000")),
     ("D7FF", "ED 9F BF", "F1 B5 BF BF", Some("D7FF")),
     ("E000", "EE 80 80", "F1 B8 A0 A0", Some("E000")),
+    ("FDD0", "EF B7 90", "F1 BF AE B0", Some("FDD0")),
     ("FEFF", "EF BB BF", "F1 BF B7 BF", Some("FEFF")),
+    ("FFFD", "EF BF BD", "F1 BF BF BD", Some("FFFD")),
     ("FFFE", "EF BF BE", "F1 BF BF BE", Some("FFFE")),
     ("FFFF", "EF BF BF", "F1 BF BF BF", Some("FFFF")),
     ("10000", "F0 90 80 80", "F2 A0 A0 A0", Some("D800 DC00")),
+    ("1FFFE", "F0 9F BF BE", "F3 BF BF BE", Some("D83F DFFE")),
+    ("1FFFF", "F0 9F BF BF", "F3 BF BF BF", Some("D83F DFFF")),
     ("3FFFF", "F0 BF BF BF", "F7 BF BF BF", Some("D8BF DFFF")),
     ("40000", "F1 80 80 80", "F8 A8 A0 A0 A0", Some("D8C0 DC00")),
+    ("10FFFE", "F4 8F BF BE", "F9 A1 BF BF BE", Some("DBFF DFFE")),
     ("10FFFF", "F4 8F BF BF", "F9 A1 BF BF BF", Some("DBFF DFFF")),
     ("110000", "F4 90 80 80", "F9 A2 A0 A0 A0", None),
     ("1FFFFF", "F7 BF BF BF", "F9 BF BF BF BF", None),
@@ -62,6 +68,7 @@ pub fn check(group: &mut Group) {
     starred(group);
     refused(group);
     surrogates(group);
+    turned_away(group);
     each_form!(empty(group));
 }
 
@@ -82,55 +89,70 @@ fn units<F: Form>((ucs_4, fss_utf, i8_bytes, utf_16): Spelled) -> Option<Vec<F::
     Some(numbers.into_iter().map(F::unit).collect())
 }
 
-const REFUSED_AT_0: Refusal = Refusal {
-    fault: 6,
-    offset: 0,
-};
+/// Request 110: "Document 01's case of FFFF becomes 12 in conversion."
+fn is_refused((ucs_4, ..): Spelled) -> bool {
+    ucs_4 == "FFFE" || ucs_4 == "FFFF"
+}
 
-/// Each row of the table, from form to form; UTF-16 has no unit for some,
-/// which is fault 6 at 0.
+/// What a row gives in the form `G`, or the fault by which it is refused;
+/// UTF-16 has no unit for some.
+fn given<G: Form>(row: Spelled) -> Result<Vec<G::Unit>, u32> {
+    if is_refused(row) {
+        return Err(12);
+    }
+    units::<G>(row).ok_or(6)
+}
+
+/// Each row of the table, from form to form; what is refused is so at 0.
 fn spelled<F: LinkedTo<G> + Drawn, G: LinkedTo<F>>(group: &mut Group) {
     for row in SPELLED {
         if let Some(text) = units::<F>(row) {
-            let expected: Converted<G> = units::<G>(row).ok_or(REFUSED_AT_0);
+            let expected: Converted<G> =
+                given::<G>(row).map_err(|fault| Refusal { fault, offset: 0 });
             three_ways::<F, G>(group, "both sides of limits", &text, &expected);
         }
     }
 }
 
-/// The rows one behind the other: first those that both forms have, then all
-/// that the source has.
+/// The rows one behind the other: first those that are accepted, then those
+/// that UTF-16 may not have as well, then all that the source has.
 fn spelled_together<F: LinkedTo<G> + Drawn, G: LinkedTo<F>>(group: &mut Group) {
     let source = "both sides of limits, one behind the other";
-    let mut text = Vec::new();
-    let mut result = Vec::new();
-    for row in SPELLED {
-        if let (Some(from), Some(to)) = (units::<F>(row), units::<G>(row)) {
-            text.extend(from);
-            result.extend(to);
-        }
-    }
-    three_ways::<F, G>(group, source, &text, &Ok(result));
-
-    let mut text = Vec::new();
-    let mut expected: Converted<G> = Ok(Vec::new());
-    for row in SPELLED {
-        let Some(from) = units::<F>(row) else {
-            continue;
-        };
-        match (&mut expected, units::<G>(row)) {
-            (Ok(result), Some(to)) => result.extend(to),
-            (Ok(_), None) => {
-                expected = Err(Refusal {
-                    fault: 6,
-                    offset: text.len(),
-                });
+    let mut together = |kept: fn(Spelled) -> bool| {
+        let mut text = Vec::new();
+        let mut expected: Converted<G> = Ok(Vec::new());
+        for row in SPELLED.into_iter().filter(|&row| kept(row)) {
+            let Some(from) = units::<F>(row) else {
+                continue;
+            };
+            match (&mut expected, given::<G>(row)) {
+                (Ok(result), Ok(to)) => result.extend(to),
+                (Ok(_), Err(fault)) => {
+                    expected = Err(Refusal {
+                        fault,
+                        offset: text.len(),
+                    });
+                }
+                (Err(_), _) => {}
             }
-            (Err(_), _) => {}
+            text.extend(from);
         }
-        text.extend(from);
-    }
-    three_ways::<F, G>(group, source, &text, &expected);
+        three_ways::<F, G>(group, source, &text, &expected);
+        expected.err().map(|refusal| refusal.fault)
+    };
+    let refused_by = [
+        together(|row| !is_refused(row) && units::<Utf16>(row).is_some()),
+        together(|row| !is_refused(row)),
+        together(|_| true),
+    ];
+    let to_utf_16 = (G::NAME == Utf16::NAME).then_some(6);
+    group.check(refused_by == [None, to_utf_16, Some(12)], || {
+        format!(
+            "{source}: {} to {} is refused by {refused_by:?}",
+            F::NAME,
+            G::NAME
+        )
+    });
 }
 
 /// A text's conversion to one other form, both as a paper writes them.
@@ -314,6 +336,109 @@ fn refused_everywhere(
     gives::<UtfEbcdic, Ucs4>(group, source, utf_ebcdic, Err((10, in_utf_ebcdic)));
     gives::<UtfEbcdic, FssUtf>(group, source, utf_ebcdic, Err((10, in_utf_ebcdic)));
     gives::<UtfEbcdic, Utf16>(group, source, utf_ebcdic, Err((10, in_utf_ebcdic)));
+}
+
+/// Request 110: "Strict conversion and the measure shall refuse them from every
+/// form", "tried after 11 and before 6 at the same place". Of two faults the
+/// lower place decides, whatever the numbers.
+fn turned_away(group: &mut Group) {
+    let source = "request 110";
+    let fss_utf: [(&[u32], u32, usize); 14] = [
+        (&[0xEF, 0xBF, 0xBE], 12, 0),
+        (&[0xEF, 0xBF, 0xBF], 12, 0),
+        (&[0x41, 0xEF, 0xBF, 0xBF, 0x41], 12, 1),
+        (&[0xEF, 0xBF, 0xBD, 0xEF, 0xBF, 0xBE], 12, 3),
+        (&[0xF0, 0x90, 0x80, 0x80, 0xEF, 0xBF, 0xBF], 12, 4),
+        // A surrogate before it and behind it.
+        (&[0xED, 0xA0, 0x80, 0xEF, 0xBF, 0xBF], 10, 0),
+        (&[0xEF, 0xBF, 0xBF, 0xED, 0xA0, 0x80], 12, 0),
+        // A sequence cut short, and a trailing byte too many.
+        (&[0xEF, 0xBF], 2, 0),
+        (&[0xEF, 0xBF, 0xEF, 0xBF, 0xBF], 2, 0),
+        (&[0xEF, 0xBF, 0xBF, 0xBF], 12, 0),
+        (&[0xBF, 0xEF, 0xBF, 0xBF], 3, 0),
+        (&[0xFF, 0xEF, 0xBF, 0xBE], 4, 0),
+        // Sequences that are too long for them.
+        (&[0xF0, 0x8F, 0xBF, 0xBF], 5, 0),
+        (&[0xF8, 0x80, 0x8F, 0xBF, 0xBE], 5, 0),
+    ];
+    for (text, fault, offset) in fss_utf {
+        gives::<FssUtf, UtfEbcdic>(group, source, text, Err((fault, offset)));
+        gives::<FssUtf, Utf16>(group, source, text, Err((fault, offset)));
+        gives::<FssUtf, Ucs4>(group, source, text, Err((fault, offset)));
+    }
+
+    let i8_bytes: [(&[u32], u32, usize); 8] = [
+        (&[0xF1, 0xBF, 0xBF, 0xBE], 12, 0),
+        (&[0xF1, 0xBF, 0xBF, 0xBF], 12, 0),
+        (&[0x41, 0xF1, 0xBF, 0xBF, 0xBF, 0x41], 12, 1),
+        // 3FFF passes.
+        (&[0xEF, 0xBF, 0xBF, 0xF1, 0xBF, 0xBF, 0xBE], 12, 3),
+        (&[0xF1, 0xB6, 0xA0, 0xA0, 0xF1, 0xBF, 0xBF, 0xBF], 10, 0),
+        (&[0xF1, 0xBF, 0xBF, 0xBF, 0xF1, 0xB6, 0xA0, 0xA0], 12, 0),
+        (&[0xF1, 0xBF, 0xBF], 2, 0),
+        (&[0xF8, 0xA1, 0xBF, 0xBF, 0xBF], 5, 0),
+    ];
+    for (text, fault, offset) in i8_bytes {
+        let text = from_i8(text);
+        gives::<UtfEbcdic, FssUtf>(group, source, &text, Err((fault, offset)));
+        gives::<UtfEbcdic, Utf16>(group, source, &text, Err((fault, offset)));
+        gives::<UtfEbcdic, Ucs4>(group, source, &text, Err((fault, offset)));
+    }
+
+    let utf_16: [(&[u32], u32, usize); 8] = [
+        (&[0xFFFE], 12, 0),
+        (&[0xFFFF], 12, 0),
+        // A mark of either byte order is no mark here.
+        (&[0xFFFE, 0x0041], 12, 0),
+        (&[0xFEFF, 0xFFFE], 12, 1),
+        (&[0xD83F, 0xDFFF, 0xFFFF], 12, 2),
+        (&[0xD83F, 0xFFFF, 0xDFFF], 2, 0),
+        (&[0xFFFF, 0xD83F], 12, 0),
+        (&[0xDFFF, 0xFFFF], 3, 0),
+    ];
+    for (text, fault, offset) in utf_16 {
+        gives::<Utf16, FssUtf>(group, source, text, Err((fault, offset)));
+        gives::<Utf16, UtfEbcdic>(group, source, text, Err((fault, offset)));
+        gives::<Utf16, Ucs4>(group, source, text, Err((fault, offset)));
+    }
+
+    let ucs_4: [(&[u32], u32, usize); 8] = [
+        (&[0xFFFE], 12, 0),
+        (&[0xFFFF], 12, 0),
+        (&[0x1_FFFE, 0x1_FFFF, 0xFDD0, 0xFFFF], 12, 3),
+        (&[0xD800, 0xFFFF], 10, 0),
+        (&[0xFFFF, 0xD800], 12, 0),
+        (&[0x8000_FFFF, 0xFFFF], 4, 0),
+        (&[0xFFFE, 0xFFFF_FFFE], 12, 0),
+        (&[0xFFFF, 0x11_0000], 12, 0),
+    ];
+    for (text, fault, offset) in ucs_4 {
+        gives::<Ucs4, FssUtf>(group, source, text, Err((fault, offset)));
+        gives::<Ucs4, UtfEbcdic>(group, source, text, Err((fault, offset)));
+        gives::<Ucs4, Utf16>(group, source, text, Err((fault, offset)));
+    }
+
+    // A value that UTF-16 cannot hold, before one that is turned away, is
+    // refused by that form alone.
+    let values = [0x11_0000, 0xFFFF];
+    gives::<Ucs4, Utf16>(group, source, &values, Err((6, 0)));
+    gives::<Ucs4, FssUtf>(group, source, &values, Err((12, 1)));
+    gives::<Ucs4, UtfEbcdic>(group, source, &values, Err((12, 1)));
+    let bytes = [0xF4, 0x90, 0x80, 0x80, 0xEF, 0xBF, 0xBF];
+    gives::<FssUtf, Utf16>(group, source, &bytes, Err((6, 0)));
+    gives::<FssUtf, Ucs4>(group, source, &bytes, Err((12, 4)));
+    gives::<FssUtf, UtfEbcdic>(group, source, &bytes, Err((12, 4)));
+    let bytes = from_i8(&[0xF9, 0xA2, 0xA0, 0xA0, 0xA0, 0xF1, 0xBF, 0xBF, 0xBF]);
+    gives::<UtfEbcdic, Utf16>(group, source, &bytes, Err((6, 0)));
+    gives::<UtfEbcdic, Ucs4>(group, source, &bytes, Err((12, 5)));
+    gives::<UtfEbcdic, FssUtf>(group, source, &bytes, Err((12, 5)));
+
+    // "EF BF BF in I8 is 3FFF and no concern of it."
+    let bytes = from_i8(&[0xEF, 0xBF, 0xBF]);
+    gives::<UtfEbcdic, FssUtf>(group, source, &bytes, Ok(&[0xE3, 0xBF, 0xBF]));
+    gives::<UtfEbcdic, Utf16>(group, source, &bytes, Ok(&[0x3FFF]));
+    gives::<UtfEbcdic, Ucs4>(group, source, &bytes, Ok(&[0x3FFF]));
 }
 
 /// "The empty text converts to the empty text."

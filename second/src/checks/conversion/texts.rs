@@ -10,10 +10,14 @@ use crate::report::{hex, Group};
 
 const TEXTS_OF_EACH_PAIR: usize = 100_000;
 
+/// How often each fault came, with 0 for an accepted text.
+type Came = BTreeMap<u32, usize>;
+
 pub fn check(group: &mut Group) {
-    // How often each fault came, with 0 for an accepted text.
-    let mut came = BTreeMap::new();
-    each_pair!(texts(group, &mut came));
+    let mut came = Came::new();
+    // The fewest texts of a pair that were accepted, and refused by 12.
+    let mut fewest = [TEXTS_OF_EACH_PAIR; 2];
+    each_pair!(texts(group, &mut came, &mut fewest));
     let accepted = came.remove(&0).unwrap_or(0);
     let refused: Vec<String> = came
         .iter()
@@ -24,10 +28,18 @@ pub fn check(group: &mut Group) {
         12 * TEXTS_OF_EACH_PAIR,
         refused.join(", "),
     ));
-    group.check(accepted >= TEXTS_OF_EACH_PAIR, || {
-        format!("{accepted} texts were accepted")
+    let [accepted, turned_away] = fewest;
+    group.note(format!(
+        "of each pair at least {accepted} accepted and {turned_away} refused by 12"
+    ));
+    // Neither is so frequent that the other is seldom.
+    group.check(accepted >= TEXTS_OF_EACH_PAIR / 4, || {
+        format!("of one pair {accepted} texts were accepted")
     });
-    for fault in 2..=6 {
+    group.check(turned_away >= TEXTS_OF_EACH_PAIR / 20, || {
+        format!("of one pair {turned_away} texts were refused by 12")
+    });
+    for fault in [2, 3, 4, 5, 6, 10] {
         group.check(came.contains_key(&fault), || {
             format!("no text had fault {fault}")
         });
@@ -36,8 +48,10 @@ pub fn check(group: &mut Group) {
 
 fn texts<F: LinkedTo<G> + Drawn, G: LinkedTo<F> + Drawn>(
     group: &mut Group,
-    came: &mut BTreeMap<u32, usize>,
+    came: &mut Came,
+    fewest: &mut [usize; 2],
 ) {
+    let mut of_pair = Came::new();
     let stream = 0xA00 + 0x10 * F::LONGEST_ITEM + G::LONGEST_ITEM;
     let mut random = Random::new(stream as u64);
     let mut text = Vec::new();
@@ -64,6 +78,13 @@ fn texts<F: LinkedTo<G> + Drawn, G: LinkedTo<F> + Drawn>(
             });
         }
         let fault = expected.err().map_or(0, |refusal| refusal.fault);
-        *came.entry(fault).or_default() += 1;
+        *of_pair.entry(fault).or_default() += 1;
+    }
+
+    for (fewest, fault) in fewest.iter_mut().zip([0, 12]) {
+        *fewest = of_pair.get(&fault).copied().unwrap_or(0).min(*fewest);
+    }
+    for (fault, count) in of_pair {
+        *came.entry(fault).or_default() += count;
     }
 }

@@ -5,7 +5,7 @@ use super::{agree, each_pair, three_ways};
 use crate::checks::boundaries::boundary_values;
 use crate::library::LinkedTo;
 use crate::random::{Drawn, Random};
-use crate::reference::{FssUtf, Ucs4, Utf16, UtfEbcdic};
+use crate::reference::{FssUtf, Refusal, Ucs4, Utf16, UtfEbcdic};
 use crate::report::Group;
 
 pub fn check(group: &mut Group) {
@@ -53,18 +53,38 @@ fn drawn<F: LinkedTo<G> + Drawn, G: LinkedTo<F>>(group: &mut Group) {
     }
 }
 
-/// Every value from 0 to 10FFFF that both forms hold, in texts of 4,096.
+/// Every value from 0 to 10FFFF that both forms hold, in texts of 4,096. The two
+/// that are turned away are left out of theirs; then each stands at its end.
 fn in_turn<F: LinkedTo<G> + Drawn, G: LinkedTo<F>>(group: &mut Group) {
     for first in (0..0x11_0000).step_by(0x1000) {
         let mut text = Vec::new();
         let mut result = Vec::new();
+        let mut turned_away = Vec::new();
         for value in first..first + 0x1000 {
             if let (Some(from), Some(to)) = (F::encode(value), G::encode(value)) {
+                if value == 0xFFFE || value == 0xFFFF {
+                    turned_away.push(from);
+                    continue;
+                }
                 text.extend_from_slice(&from);
                 result.extend_from_slice(&to);
             }
         }
         three_ways::<F, G>(group, "values in turn", &text, &Ok(result));
+
+        for character in &turned_away {
+            let refused = [&text[..], character].concat();
+            let expected = Err(Refusal {
+                fault: 12,
+                offset: text.len(),
+            });
+            three_ways::<F, G>(group, "values in turn", &refused, &expected);
+        }
+        let count = if first == 0xF000 { 2 } else { 0 };
+        group.check(turned_away.len() == count, || {
+            let came = turned_away.len();
+            format!("{came} values from {first:X} on are turned away, not {count}")
+        });
     }
 }
 

@@ -91,6 +91,8 @@ fn fss_utf(group: &mut Group) {
     point::<FssUtf>(group, &too_long, &[marked(5, 0, 4); 4]);
     let highest = [0xFD, 0xBF, 0xBF, 0xBF, 0xBF, 0xBF];
     point::<FssUtf>(group, &highest, &[given(0x7FFF_FFFF, 0, 6); 6]);
+    point::<FssUtf>(group, &[0xEF, 0xBF, 0xBE], &[given(0xFFFE, 0, 3); 3]);
+    point::<FssUtf>(group, &[0xEF, 0xBF, 0xBF], &[given(0xFFFF, 0, 3); 3]);
 }
 
 fn utf_ebcdic(group: &mut Group) {
@@ -101,6 +103,10 @@ fn utf_ebcdic(group: &mut Group) {
     point::<UtfEbcdic>(group, &four, &[given(0x4000, 0, 4); 4]);
     let highest = [0xE1, 0xFE, 0xFE, 0xFE, 0xFE, 0xFE, 0xFE];
     point::<UtfEbcdic>(group, &highest, &[given(0x7FFF_FFFF, 0, 7); 7]);
+    for (last, value) in [(0xFD, 0xFFFE), (0xFE, 0xFFFF)] {
+        let four = [0xB3, 0xFE, 0xFE, last];
+        point::<UtfEbcdic>(group, &four, &[given(value, 0, 4); 4]);
+    }
     point::<UtfEbcdic>(
         group,
         &[0x9A, 0x80, 0xC1, 0x80],
@@ -117,6 +123,11 @@ fn utf16(group: &mut Group) {
     point::<Utf16>(group, &[0xD800, 0xDC00], &[given(0x1_0000, 0, 2); 2]);
     point::<Utf16>(group, &[0xDC00], &[marked(3, 0, 1)]);
     point::<Utf16>(group, &[0xD800], &[marked(2, 0, 1)]);
+    point::<Utf16>(
+        group,
+        &[0xFFFE, 0xFFFF],
+        &[given(0xFFFE, 0, 1), given(0xFFFF, 1, 1)],
+    );
     point::<Utf16>(
         group,
         &[0xD800, 0x0041],
@@ -137,6 +148,11 @@ fn utf16(group: &mut Group) {
 fn ucs4(group: &mut Group) {
     point::<Ucs4>(group, &[0xD800], &[marked(10, 0, 1)]);
     point::<Ucs4>(group, &[0x8000_0000], &[marked(4, 0, 1)]);
+    point::<Ucs4>(
+        group,
+        &[0xFFFE, 0xFFFF],
+        &[given(0xFFFE, 0, 1), given(0xFFFF, 1, 1)],
+    );
     point::<Ucs4>(
         group,
         &[0x7FFF_FFFF, 0xDFFF, 0xE000, 0xFFFF_FFFF],
