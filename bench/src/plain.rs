@@ -11,6 +11,12 @@ fn is_surrogate(value: u32) -> bool {
     (0xD800..=0xDFFF).contains(&value)
 }
 
+/// What strict conversion turns away.
+#[inline(always)]
+fn is_noncharacter(value: u32) -> bool {
+    matches!(value, 0xFFFE | 0xFFFF)
+}
+
 #[inline(always)]
 fn read_utf_ebcdic(src: &[u8], at: usize) -> Read {
     let first = UTF_EBCDIC_TO_I8[usize::from(src[at])];
@@ -163,6 +169,9 @@ fn convert<F, G>(
     let mut written = 0;
     while at < src.len() {
         let (value, length) = read(src, at)?;
+        if is_noncharacter(value) {
+            return None;
+        }
         at += length;
         written += write(value, &mut dst[written..])?;
     }
