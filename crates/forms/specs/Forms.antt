@@ -1,4 +1,4 @@
--- The four forms of document 01, "Byte layouts".
+-- The four forms of document 01, "Byte layouts"; and each of them as the target of strict conversion, by request 110.
 use Prim.Native.Nat.{ℕ, _-_, _^_}
 use mathlib.Core.Bool.{Bool, cond}
 use mathlib.Core.List.{List, [], _∷_}
@@ -81,6 +81,6 @@ isNonCharacter v = within 0xFFFE 0xFFFF v
 abbrev pub turnedAway : ℕ → Option Fault
 turnedAway v = cond (isNonCharacter v) (some NonCharacter) none
 
--- a form as the target of strict conversion
+-- a form as the target of strict conversion; "before 6": the values of 12 lie below those of 6
 abbrev pub strictly : Form → Form
 strictly G = narrowed turnedAway G

@@ -14,8 +14,8 @@ use Rattle.laws.specs.Exactness.{Exact, ExactLength}
 use Rattle.laws.specs.RoundTrip.{RoundTrip}
 use Rattle.laws.specs.Room.{Room}
 
--- what an accepted text is: characters of values that both forms have encodings of, without FFFE and FFFF; and its result: their encodings in the
--- other
+-- what an accepted text is: characters of values that both forms have encodings of, FFFE and FFFF not among them; and its result: their
+-- encodings in the other
 pub record Accepted (F G : Form) (s es : List ℕ) : Type 0 where
   pub values : List ℕ
   pub source : s ≡ encodeAll F values
@@ -31,8 +31,8 @@ pub record Pair (F G : Form) (most : ℕ → ℕ) : Type 0 where
   pub characters : (s d : List ℕ) (n : ℕ) (o : List ℕ) → Converts F G s d (Units n) o → Accepted F G s (take n o)
   -- and every text of such values is accepted
   pub accepts : (vs : List ℕ) → AllEncodable F vs → AllEncodable (strictly G) vs → length (encodeAll F vs) ≤ limit → outcome F G (encodeAll F vs) ≡ converted (encodeAll G vs)
-  -- a character that is not written: FFFE or FFFF, by 12 (request 110), or one that the target does not hold: "fault 6 is left with values above
-  -- 10FFFF" (request 104)
+  -- the fault of a character that is not written: 12, of FFFE and FFFF (request 110), or 6, which "is left with values above 10FFFF" (request
+  -- 104) that the target does not hold
   pub unheld :
       (v : ℕ) → encode F v ≢ [] → encode (strictly G) v ≡ [] → let f = unheldBy (strictly G .excluded v) in
       ((f ≡ NonCharacter) × (0xFFFE ≤ v) × (v ≤ 0xFFFF)) ⊎ ((f ≡ Unrepresentable) × (0x10FFFF < v) × (encode G v ≡ []))
