@@ -21,6 +21,7 @@ use Rattle.forms.specs.Conversion.{converted, encoding, refusalAt, prepend, con
 use Rattle.laws.specs.LayoutTable.{AllTrailing}
 use Rattle.laws.proofs.FormLaws.{Reads, Laws}
 use Rattle.laws.proofs.Rows.{within-in, within-below, within-above}
+use Rattle.laws.proofs.Carried.{not-excluded}
 use Rattle.laws.proofs.Outcomes.{prepend-converted, put-some, put-converted}
 
 or-none : (o y : Option Fault) → orElse o y ≡ none → (o ≡ none) × (y ≡ none)
@@ -31,14 +32,10 @@ else-none : (o : Option Fault) → orElse o none ≡ o
 else-none none = refl
 else-none (some f) = refl
 
-unless-none : (o : Option Fault) (e : List ℕ) → unless o e ≢ [] → o ≡ none
-unless-none none e n = refl
-unless-none (some f) e n = absurd (n refl)
-
 module _ (x : ℕ → Option Fault) (G : Form) where
   -- a value that it holds is not among the further ones
   pub not-narrowed : (v : ℕ) → encode (narrowed x G) v ≢ [] → x v ≡ none
-  not-narrowed v n = or-none (G .excluded v) (x v) (unless-none (orElse (G .excluded v) (x v)) (G .shortest v) n) .1
+  not-narrowed v n = or-none (G .excluded v) (x v) (not-excluded (narrowed x G) v n) .1
 
   -- and any other has the encoding that it had
   pub as-before : (v : ℕ) → x v ≡ none → encode (narrowed x G) v ≡ encode G v

@@ -25,11 +25,15 @@ pub record Excludes (G : Form) : Type 0 where
   -- and nothing but by 6
   pub others : (v : ℕ) → noCharacter v ≡ none → unheldBy (G .excluded v) ≡ Unrepresentable
 
+-- a form that excludes the surrogates alone
+surrogates-only : (G : Form) → ((v : ℕ) → G .excluded v ≡ noCharacter v) → Excludes G
+surrogates-only G same = record { holds = λ v h free. same v ∙ free; others = λ v free. ap unheldBy (same v ∙ free) }
+
 pub fssUtf-excludes : Excludes fssUtf
-fssUtf-excludes = record { holds = λ v h free. free; others = λ v free. rw free }
+fssUtf-excludes = surrogates-only _ (λ v. refl)
 
 pub utfEbcdic-excludes : Excludes utfEbcdic
-utfEbcdic-excludes = record { holds = λ v h free. free; others = λ v free. rw free }
+utfEbcdic-excludes = surrogates-only _ (λ v. refl)
 
 pub utf16-excludes : Excludes utf16
 utf16-excludes = record { holds = λ v h free. rw (free, le-ltb 0x10FFFF v h); others = λ v free. rw free (either (ltb 0x10FFFF v)) }
@@ -39,7 +43,7 @@ utf16-excludes = record { holds = λ v h free. rw (free, le-ltb 0x10FFFF v h); o
     either false = refl
 
 pub ucs4-excludes : Excludes ucs4
-ucs4-excludes = record { holds = λ v h free. free; others = λ v free. rw free }
+ucs4-excludes = surrogates-only _ (λ v. refl)
 
 module _ (G : Form) (excludes : Excludes G) (v : ℕ) (free : noCharacter v ≡ none) where
   by-12 : 0xFFFE ≤ v → v < 0x10000 → unheldBy (strictly G .excluded v) ≡ NonCharacter
