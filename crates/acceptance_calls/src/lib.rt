@@ -1,6 +1,8 @@
 // The contracts that `acceptance` starts from are those of the calls: each export, and each call of the readers, by its name, with the
 // promise that the acceptance paper reads. Only the contract of a call is seen here, so that one that says less, or asks something of its
 // caller, is refused. (What an export promises is proved from the contract of the call behind it.)
+#![tactic(auto)]
+
 ghost use Rattle.std.specs.Prelude.{◌≡◌};
 ghost use Rattle.forms.specs.Forms.{fss_utf, utf_ebcdic, utf16, ucs4};
 ghost use Rattle.forms.specs.Finder.{item_covering};

@@ -1,5 +1,7 @@
 // What items and faults tell, and the refusals that concern no item: functions of the types that the calls share. Each says by the rules of
 // `forms` what it gives.
+#![tactic(auto)]
+
 ghost use Rattle.std.specs.Prelude.{◌≡◌};
 ghost use Rattle.forms.specs.Fault.{number_of, refusal};
 ghost use Rattle.forms.specs.Form.{span_of};

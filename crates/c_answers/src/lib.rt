@@ -1,4 +1,6 @@
 // The answers as C sees them: structs of numbers. `specs/Answer` says which number stands for which case.
+#![tactic(auto)]
+
 ghost use Rattle.std.specs.Prelude.{◌≡◌};
 ghost use Rattle.c_answers.specs.Answer.{item_answer, found_answer, shown_item, refused_item, conversion_answer, decoding_answer};
 

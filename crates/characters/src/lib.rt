@@ -1,5 +1,7 @@
 // A character read from a text, by its form: `fss_utf`, `utf_ebcdic`, `utf16`. The readers give no faults: where they find no such
 // character, the reader of items looks. `specs/Short` has the promise.
+#![tactic(auto)]
+
 pub mod fss_utf;
 pub mod utf16;
 pub mod utf_ebcdic;

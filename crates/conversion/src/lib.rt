@@ -2,6 +2,8 @@
 //
 // `f_to_g` converts a text into a lent buffer: the code units stand at its front and its rest is untouched, or it is refused and the buffer
 // is as it was. `specs/Conversion` of `forms` says what each gives; `conversion_length` has the lengths.
+#![tactic(auto)]
+
 ghost use Rattle.forms.specs.Forms.{fss_utf, utf_ebcdic, utf16, ucs4};
 ghost use Rattle.forms.specs.Conversion.{Converts};
 

@@ -2,6 +2,8 @@
 //
 // `f_to_g_length` gives how many code units the text has in the other form, or the refusal. `specs/Conversion` of `forms` says what each
 // gives.
+#![tactic(auto)]
+
 ghost use Rattle.forms.specs.Forms.{fss_utf, utf_ebcdic, utf16, ucs4};
 ghost use Rattle.forms.specs.Conversion.{Measures};
 

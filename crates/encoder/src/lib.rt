@@ -2,6 +2,8 @@
 // value, by the width of the code units; `fss_utf` and `utf_ebcdic` the same by straight code; `fss_utf_blocks` and `utf16_blocks` many at
 // once, within `value_bounds`. These functions ask that the value is a character's and that the room suffices: the calls of `conversion` ask
 // nothing.
+#![tactic(auto)]
+
 pub mod bytes;
 pub mod fss_utf;
 pub mod fss_utf_blocks;

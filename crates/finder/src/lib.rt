@@ -3,6 +3,8 @@
 // Each gives the item, in the reading of the whole text, that covers the asked offset: `FindsItem` in `specs/Finder` of `forms`. It looks
 // for the start at the asked code unit and at those before it that the longest item reaches, and reads the item there: its cost does not grow
 // with the text. `bytes`, `utf16` and `ucs4` have them by the width of the code units.
+#![tactic(auto)]
+
 mod bytes;
 mod ucs4;
 mod utf16;

@@ -3,6 +3,8 @@
 //
 // Each answer is a struct of numbers: `c_answers` has them, in `specs/Answer` which number stands for which case, and in `specs/Promises`
 // what converters, measures and lossy decodings promise.
+#![tactic(auto)]
+
 pub mod conversions;
 pub mod decodings;
 pub mod finders;

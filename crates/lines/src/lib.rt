@@ -1,4 +1,6 @@
 // The lines of the listing program: `listing` renders the items of a text, and `specs/Listing` says what it prints. `line` makes one line.
+#![tactic(auto)]
+
 mod line;
 
 ghost use Rattle.std.specs.Prelude.{◌≡◌, ◌+◌, ◌<◌, ◌≤◌, length};

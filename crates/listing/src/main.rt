@@ -1,5 +1,7 @@
 // Lists the items of at most 4,096 bytes of FSS-UTF from standard input. It only reads and writes: the listing is made by `lines`. Where it
 // cannot, it says so on standard error; where it cannot read, it prints no listing, not even of an empty text.
+#![tactic(auto)]
+
 use libc::{STDERR_FILENO, STDIN_FILENO, STDOUT_FILENO};
 
 fn main() {

@@ -5,6 +5,8 @@
 //
 // The loops are `from_bytes`, `from_utf16` and `from_ucs4`: each tests the `room`, and writes only then; what they keep is `Filling` of
 // `lossy_runs`.
+#![tactic(auto)]
+
 mod from_bytes;
 mod from_ucs4;
 mod from_utf16;

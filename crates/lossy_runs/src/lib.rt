@@ -1,6 +1,8 @@
 // Characters of a text, many in one step of lossy decoding: `fss_utf`, `utf16` and `ucs4`, and here what they share. `read_on` puts the
 // values and starts of the characters from an offset on into the two lent buffers, and stops where there may be a mark, which is left to
 // the item reader. `specs/ReadOn` says what is asked and promised.
+#![tactic(auto)]
+
 pub mod fss_utf;
 pub mod ucs4;
 pub mod utf16;

@@ -2,6 +2,8 @@
 //
 // A reader's state is a `Cursor`. `FssUtf::reader()` starts one, and `step_fss_utf` gives the item there with the next cursor. `specs/Step`
 // says what a step gives; the rules are those of `forms`.
+#![tactic(auto)]
+
 ghost use Rattle.std.specs.Prelude.{◌≡◌, ◌+◌, ◌≤◌, length};
 ghost use Rattle.forms.specs.Form.{span_of};
 ghost use Rattle.forms.specs.Forms.{fss_utf, utf_ebcdic, utf16, ucs4};

@@ -1,6 +1,8 @@
 // Runs of UTF-16 characters, which `measure_runs` has measured, written at once: `to_bytes` (by `to_fss_utf` and `to_utf_ebcdic`) and
 // `to_ucs4`, by `decoding`, which reads without tests. A run is whole characters; what is not taken here is left to the item reader. The
 // promise is `Wrote` in `Runs` of `laws`.
+#![tactic(auto)]
+
 pub mod decoding;
 pub mod to_bytes;
 pub mod to_fss_utf;

@@ -1,5 +1,7 @@
 // Roles, lead bases and lowest values for both byte layouts; `exchange` has the tables of the exchange and its inverse, and the shadow flags.
 // Each function's contract says by the rules what it gives; `specs/ByteForms` has the two forms by one parameter.
+#![tactic(auto)]
+
 pub mod exchange;
 
 ghost use Rattle.std.specs.Prelude.{◌≡◌, ◌<◌, ◌≤◌, length};

@@ -1,5 +1,7 @@
 // The types that every call speaks in: faults, items, refusals and answers. The rules about them are the definitions of `forms`.
 
+#![tactic(auto)]
+
 // Document 01's faults and those of requests 104 and 110, in the order of their numbers.
 #[derive(Drop)]
 pub enum Fault {
