@@ -8,7 +8,7 @@ use reader::Step;
 use types::{Conversion, Decoding, Found, Item, Refusal};
 
 #[repr(C)]
-#[derive(Drop)]
+#[derive(Clone, Copy)]
 pub struct JkItem {
     pub kind: u32,
     pub fault: u32,
@@ -77,7 +77,7 @@ fn refused_item(refusal: Refusal) -> JkItem
 }
 
 #[repr(C)]
-#[derive(Drop)]
+#[derive(Clone, Copy)]
 pub struct JkConversion {
     pub fault: u32,
     pub offset: u64,
@@ -109,7 +109,7 @@ fn refused_conversion(refusal: Refusal) -> JkConversion
 }
 
 #[repr(C)]
-#[derive(Drop)]
+#[derive(Clone, Copy)]
 pub struct JkDecoding {
     pub fault: u32,
     pub offset: u64,

@@ -7,7 +7,7 @@ pub mod utf16;
 pub mod utf_ebcdic;
 
 // A character's value and its number of code units; a length of 0 where there may be none.
-#[derive(Drop)]
+#[derive(Clone, Copy)]
 pub struct Short {
     pub value: u32,
     pub length: usize,

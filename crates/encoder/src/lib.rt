@@ -22,7 +22,7 @@ ghost use Rattle.encoder.specs.Target.{target_form};
 use tables::ByteForm;
 
 // The form that a text is converted to.
-#[derive(Drop)]
+#[derive(Clone, Copy)]
 pub enum Target {
     FssUtf,
     UtfEbcdic,

@@ -8,7 +8,7 @@ use tables::ByteForm;
 use types::{Fault, Item, Span};
 
 // The trailing bytes that a lead takes: how many, and the free bits of the lead and of them joined.
-#[derive(Drop)]
+#[derive(Clone, Copy)]
 struct Tail {
     count: usize,
     value: u32,

@@ -12,7 +12,7 @@ ghost use Rattle.forms.specs.Buffer.{with_units};
 ghost use Rattle.lossy_runs.specs.ReadOn.{offsets_from};
 
 // How far a step came: the offset and the cell behind the characters that it read.
-#[derive(Drop)]
+#[derive(Clone, Copy)]
 pub struct Read {
     pub at: usize,
     pub items: usize,

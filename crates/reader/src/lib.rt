@@ -14,20 +14,20 @@ use tables::ByteForm;
 use types::{Item, Refusal};
 
 // A place in a text, which each step carries forward past one item.
-#[derive(Drop)]
+#[derive(Clone, Copy)]
 pub struct Cursor {
     pub offset: usize,
 }
 
 // What a step gives: the item with the next cursor; at the end, the cursor as it is; or the refusal.
-#[derive(Drop)]
+#[derive(Clone, Copy)]
 pub enum Step {
     Next(Item, Cursor),
     End(Cursor),
     Refused(Refusal),
 }
 
-#[derive(Drop)]
+#[derive(Clone, Copy)]
 pub struct FssUtf {}
 
 impl FssUtf {
@@ -46,7 +46,7 @@ impl FssUtf {
     }
 }
 
-#[derive(Drop)]
+#[derive(Clone, Copy)]
 pub struct UtfEbcdic {}
 
 impl UtfEbcdic {
@@ -65,7 +65,7 @@ impl UtfEbcdic {
     }
 }
 
-#[derive(Drop)]
+#[derive(Clone, Copy)]
 pub struct Utf16 {}
 
 impl Utf16 {
@@ -84,7 +84,7 @@ impl Utf16 {
     }
 }
 
-#[derive(Drop)]
+#[derive(Clone, Copy)]
 pub struct Ucs4 {}
 
 impl Ucs4 {

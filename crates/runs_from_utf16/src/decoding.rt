@@ -8,7 +8,7 @@ ghost use Rattle.laws.proofs.Runs.{Stands};
 ghost use Rattle.laws.proofs.Values.{part};
 
 // A value, and how many units it has.
-#[derive(Drop)]
+#[derive(Clone, Copy)]
 pub struct Decoded {
     pub value: u32,
     pub length: usize,

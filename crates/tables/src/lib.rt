@@ -9,7 +9,7 @@ ghost use Rattle.forms.specs.Layout.{role_of, row_at, lowest_of};
 ghost use Rattle.tables.specs.ByteForms.{layout_of, plain_of, unit_of, role_number};
 
 // The two forms whose code units are bytes.
-#[derive(Drop)]
+#[derive(Clone, Copy)]
 pub enum ByteForm {
     FssUtf,
     UtfEbcdic,
