@@ -1,0 +1,73 @@
+use Prim.Native.Nat.{◌+◌, ◌*◌, ◌-◌, ◌^◌, ◌≤◌}
+use mathlib.Core.Path.{◌≡◌}
+use native.Mathlib.Omega.{arith}
+use borrow.Author.Rules.{rules}
+use lib.ListN.{get_or}
+use Rattle.laws.proofs.Digits.{IsDigit}
+use Rattle.tables.specs.ByteForms.{byte_form, layout_of, plain_of, role_number}
+use Rattle.tables.proofs.Agreement.{byte_role}
+use Rattle.items.proofs.Tails.{JoiningBytes, bytes_begin, bytes_fit, bytes_end, bytes_asked, bytes_other, bytes_digit, bytes_more}
+use Rattle.items.proofs.bytes.tail_at.Goals as goal
+
+pub returns-then-text-at : goal.returns-then-text-at
+returns-then-text-at c = let l = c.loop-count in
+    let a = c.args in
+    bytes_end a.form a.text.now a.from a.asked a.lead l.count l.at l.value l.invariant c.if-text-at.true
+
+pub returns-then-role-ne9 : goal.returns-then-role-ne9
+returns-then-role-ne9 c =
+    let told : (let a = c.args in
+    c.role.result ≡ role_number ((byte_form a.form).role (get_or a.text.now c.loop-count.at 0))) =
+    let a = c.args in
+    byte_role a.form (get_or a.text.now c.loop-count.at 0) c.plain-plain.result c.role.result c.plain-plain.ensures c.role.ensures in
+    let l = c.loop-count in
+    let a = c.args in
+    bytes_other a.form a.text.now a.from a.asked a.lead l.count l.at l.value l.invariant c.if-text-at.false
+    c.role.result told c.if-role-ne9.true
+
+pub overflow_mul-value : goal.overflow_mul-value
+overflow_mul-value c =
+    let room : c.loop-count.value * c.radix-radix.result + c.radix-radix.result ≤ 2 ^ 31 =
+    let a = c.args in
+    let l = c.loop-count in
+    bytes_fit a.form a.text.now a.from a.asked a.lead l.count l.at l.value l.invariant
+    c.radix-radix.result c.radix-radix.ensures c.loop-count-test.true in
+    omega (arith, room)
+
+pub overflow_add-value : goal.overflow_add-value
+overflow_add-value c =
+    let told : (let a = c.args in
+    c.role.result ≡ role_number ((byte_form a.form).role (get_or a.text.now c.loop-count.at 0))) =
+    let a = c.args in
+    byte_role a.form (get_or a.text.now c.loop-count.at 0) c.plain-plain.result c.role.result c.plain-plain.ensures c.role.ensures in
+    let digit : IsDigit (layout_of c.args.form).low (layout_of c.args.form).radix (plain_of c.args.form (get_or c.args.text.now c.loop-count.at 0)) =
+    let a = c.args in
+    let l = c.loop-count in
+    bytes_digit a.form a.text.now a.from a.asked a.lead l.count l.at l.value l.invariant c.if-text-at.false
+    c.role.result told c.if-role-ne9.false in
+    let room : c.loop-count.value * c.radix-radix.result + c.radix-radix.result ≤ 2 ^ 31 =
+    let a = c.args in
+    let l = c.loop-count in
+    bytes_fit a.form a.text.now a.from a.asked a.lead l.count l.at l.value l.invariant
+    c.radix-radix.result c.radix-radix.ensures c.loop-count-test.true in
+    let bits : (c.wide.result
+    ≡ plain_of c.args.form (get_or c.args.text.now c.loop-count.at 0)
+    - (layout_of c.args.form).low) =
+    omega (arith, c.wide.ensures, c.plain-plain.ensures, c.first_trailing-low.ensures) in
+    omega (arith, room, digit, bits, c.radix-radix.ensures)
+
+pub loop-count-preserved : goal.loop-count-preserved
+loop-count-preserved c =
+    let told : (let a = c.args in
+    c.role.result ≡ role_number ((byte_form a.form).role (get_or a.text.now c.loop-count.at 0))) =
+    let a = c.args in
+    byte_role a.form (get_or a.text.now c.loop-count.at 0) c.plain-plain.result c.role.result c.plain-plain.ensures c.role.ensures in
+    let bits : (c.wide.result
+    ≡ plain_of c.args.form (get_or c.args.text.now c.loop-count.at 0)
+    - (layout_of c.args.form).low) =
+    omega (arith, c.wide.ensures, c.plain-plain.ensures, c.first_trailing-low.ensures) in
+    let a = c.args in
+    let l = c.loop-count in
+    bytes_more a.form a.text.now a.from a.asked a.lead l.count l.at l.value l.invariant c.if-text-at.false
+    c.role.result told c.if-role-ne9.false c.loop-count-test.true
+    c.radix-radix.result c.wide.result c.radix-radix.ensures bits
