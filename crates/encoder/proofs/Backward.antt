@@ -123,5 +123,8 @@ spelled_as f v m R low s e p q =
       positive = rw p (radix_positive f);
       byte = omega (arith, b);
       bound = rw p (row_bound v (row_at L m).first (row_at L m).last (row_at L m).origin (L.radix ^ m) (row_of L (passes f) m z.0).zeroed b.1 z.1);
-      same = rw (p, q) z.2;
+      same =
+          z.2
+          ∙ ap (λ x. map (unit_of f) (spelled_from (row_at L m).first x L.radix m v)) (sym q)
+          ∙ ap (λ x. map (unit_of f) (spelled_from (row_at L m).first low x m v)) (sym p);
     }

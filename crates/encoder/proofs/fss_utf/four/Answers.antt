@@ -1,0 +1,19 @@
+use native.Mathlib.Omega.{arith}
+use mathlib.Core.Path.{◌≡◌, ap, sym}
+use mathlib.Core.List.{List, [], ◌∷◌}
+use Prim.Native.Nat.{ℕ, ◌+◌, ◌/◌, ◌%◌}
+use lib.ListN.{length, length-set}
+use Rattle.forms.specs.Form.{encode}
+use Rattle.forms.specs.Forms.{fss_utf}
+use Rattle.encoder.proofs.FssUtf.{four_bytes}
+use Rattle.laws.proofs.UnitEncodings.{put_four}
+use borrow.Author.Rules.{rules}
+use Rattle.encoder.proofs.fss_utf.four.Goals as goal
+
+pub returns : goal.returns
+returns c =
+    let spelled : (let v = c.args.value in encode fss_utf v ≡ (0xF0 + v / 262144) ∷ (0x80 + v / 4096 % 64) ∷ (0x80 + v / 64 % 64) ∷ (0x80 + v % 64) ∷ []) =
+    four_bytes c.args.value c.requires.0 c.requires.1 in
+    let a = c.args in
+    let v = a.value in
+    (ap (λ (e : List ℕ). a.at + length e) (sym spelled), put_four a.dst.now a.at (0xF0 + v / 262144) (0x80 + v / 4096 % 64) (0x80 + v / 64 % 64) (0x80 + v % 64) (encode fss_utf v) spelled c.requires.2)

@@ -1,0 +1,13 @@
+use Prim.Native.Nat.{◌-◌, ◌≤◌}
+use mathlib.Core.Path.{◌≡◌, refl}
+use native.Mathlib.Omega.{arith}
+use Rattle.forms.specs.Forms.{fss_utf}
+use Rattle.laws.proofs.Values.{Encoded, encoded_none, encoded_one, value_room, encoded_join, encoded_length}
+use borrow.Author.Rules.{rules}
+use Rattle.encoder.proofs.fss_utf_blocks.each.Given as goal
+
+abbrev pub invariant-loop-k : goal.invariant-loop-k
+invariant-loop-k l = (l.k ≤ l.count) × Encoded fss_utf l.values l.from l.k l.initial.dst l.at l.end l.dst
+
+abbrev pub decreases-loop-k : goal.decreases-loop-k
+decreases-loop-k l = l.count - l.k
