@@ -1,0 +1,20 @@
+use Prim.Native.Nat.{ℕ, ◌-◌}
+use mathlib.Core.Path.{refl}
+use native.Mathlib.Omega.{arith}
+use borrow.Author.Rules.{rules}
+use lib.ListN.{length, get_or}
+use Rattle.types.specs.declared.Item.TheVariants.{Character}
+use Rattle.forms.specs.Form.{span}
+use Rattle.forms.specs.Forms.{ucs4}
+use Rattle.laws.proofs.Progress.{CharacterAt}
+use Rattle.laws.proofs.ReadItems.{ItemAt, item-onward}
+use Rattle.lossy_runs.specs.ReadOn.{ReadOn}
+use Rattle.lossy_runs.proofs.Units.{ucs4-unit}
+use Rattle.lossy_runs.proofs.ReadingOn.{character-item, read_none, read_next, read-character}
+use Rattle.lossy_runs.proofs.ucs4.some_at.Given as goal
+
+abbrev pub invariant-loop-to : goal.invariant-loop-to
+invariant-loop-to l = ReadOn ucs4 l.text l.at l.to l.initial.values l.initial.starts l.items l.cell l.values l.starts
+
+abbrev pub decreases-loop-to : goal.decreases-loop-to
+decreases-loop-to l = length l.text - l.to

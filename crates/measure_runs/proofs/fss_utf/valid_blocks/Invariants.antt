@@ -1,0 +1,13 @@
+use Prim.Native.Nat.{◌+◌, ◌-◌}
+use lib.ListN.{length}
+use Rattle.measure_runs.specs.Validation.{Blocks}
+use Rattle.measure_runs.proofs.Validating.{blocks_none, blocks_more, units-most}
+use borrow.Author.Rules.{rules}
+use native.Mathlib.Omega.{arith}
+use Rattle.measure_runs.proofs.fss_utf.valid_blocks.Given as goal
+
+abbrev pub invariant-loop-length : goal.invariant-loop-length
+invariant-loop-length l = Blocks l.weights l.src l.at l.length l.units
+
+abbrev pub decreases-loop-length : goal.decreases-loop-length
+decreases-loop-length l = lib.ListN.length l.src - (l.at + l.length)

@@ -1,0 +1,7 @@
+use Rattle.laws.proofs.Blocks.{at-most_join, at-most_looser}
+use borrow.Author.Rules.{rules}
+use native.Mathlib.Omega.{arith}
+use Rattle.measure_runs.proofs.fss_utf_ascii.ascii_length.Goals as goal
+
+pub returns : goal.returns
+returns c = (omega arith, at-most_join c.whole_blocks-length.ensures.1 (at-most_looser 127 c.or_few.ensures (omega arith)))

@@ -1,0 +1,12 @@
+use Prim.Native.Nat.{◌+◌, ◌-◌, ◌≤◌}
+use lib.ListN.{length}
+use Rattle.laws.proofs.Blocks.{AtMost, at-most-none, at-most_join, at-most_looser}
+use borrow.Author.Rules.{rules}
+use native.Mathlib.Omega.{arith}
+use Rattle.measure_runs.proofs.fss_utf_ascii.whole_blocks.Goals as goal
+
+pub loop-length-preserved : goal.loop-length-preserved
+loop-length-preserved c = (omega arith, at-most_join c.loop-length.invariant.1 (at-most_looser 127 c.or64.ensures (omega arith)))
+
+pub loop-length-2-preserved : goal.loop-length-2-preserved
+loop-length-2-preserved c = (omega arith, at-most_join c.loop-length-2.invariant.1 (at-most_looser 127 c.or16.ensures (omega arith)))

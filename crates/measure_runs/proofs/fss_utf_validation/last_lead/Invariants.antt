@@ -1,0 +1,11 @@
+use Prim.Native.Nat.{◌<◌}
+use mathlib.Core.Path.{refl, sym, ◌∙◌}
+use borrow.Author.Rules.{rules}
+use native.Mathlib.Omega.{arith}
+use Rattle.measure_runs.proofs.fss_utf_validation.last_lead.Given as goal
+
+abbrev pub invariant-loop-last : goal.invariant-loop-last
+invariant-loop-last l = l.last < l.count
+
+abbrev pub decreases-loop-last : goal.decreases-loop-last
+decreases-loop-last l = l.last

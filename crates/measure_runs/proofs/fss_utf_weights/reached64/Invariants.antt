@@ -1,0 +1,14 @@
+use Prim.Native.Nat.{◌+◌, ◌-◌, ◌≤◌}
+use mathlib.Core.Path.{sym, ap, ◌∙◌}
+use lib.ListN.{get_or}
+use Rattle.measure_runs.proofs.Validating.{Adding, adding_none, adding_more, adding_end, none-reached, reached_below}
+use Rattle.measure_runs.specs.Validation.{bit, reached_at}
+use borrow.Author.Rules.{rules}
+use native.Mathlib.Omega.{arith}
+use Rattle.measure_runs.proofs.fss_utf_weights.reached64.Given as goal
+
+abbrev pub invariant-loop-i : goal.invariant-loop-i
+invariant-loop-i l = (l.i ≤ 64) × Adding (reached_at l.weight l.src) 1 l.at l.i l.units
+
+abbrev pub decreases-loop-i : goal.decreases-loop-i
+decreases-loop-i l = 64 - l.i

@@ -1,0 +1,31 @@
+use Prim.Native.Nat.{ℕ, ◌+◌, ◌-◌, ◌≤◌}
+use mathlib.Core.Path.{◌≡◌, refl, sym}
+use native.Mathlib.Omega.{arith}
+use lib.ListN.{get_or}
+use Rattle.laws.proofs.Runs.{sum as total, sum_zero, sum_more, sum_most}
+use Rattle.measure_runs.specs.Ucs4Bounds.{reached_at}
+use Rattle.measure_runs.proofs.Ucs4Counting.{reached-most}
+use borrow.Author.Rules.{rules}
+use Rattle.measure_runs.proofs.ucs4.reached.Goals as goal
+
+pub loop-k-init : goal.loop-k-init
+loop-k-init c = (omega arith, sym (sum_zero _ _))
+
+pub overflow_add-sum-in-loop-k-2 : goal.overflow_add-sum-in-loop-k-2
+overflow_add-sum-in-loop-k-2 c =
+    let most : c.loop-k.sum ≤ 96 =
+    let a = c.args in
+    omega (
+      arith,
+      c.loop-k.invariant.1,
+      c.loop-k.invariant.0,
+      c.requires.0,
+      sum_most (reached_at a.first a.second a.third a.src.now) 3 a.at c.loop-k.k (λ i. reached-most a.first a.second a.third (get_or a.src.now i 0)),
+    ) in
+    omega (arith, most, c.number.ensures.1, c.number-in-loop-k.ensures.1, c.number-in-loop-k-2.ensures.1)
+
+pub loop-k-preserved : goal.loop-k-preserved
+loop-k-preserved c = let a = c.args in
+    let e : c.number.result + c.number-in-loop-k.result + c.number-in-loop-k-2.result ≡ reached_at a.first a.second a.third a.src.now (a.at + c.loop-k.k) =
+    rw (c.number.ensures.0, c.number-in-loop-k.ensures.0, c.number-in-loop-k-2.ensures.0) refl in
+    (omega (arith, c.loop-k-test.true), rw (e, c.loop-k.invariant.1) (sym (sum_more (reached_at a.first a.second a.third a.src.now) a.at c.loop-k.k)))

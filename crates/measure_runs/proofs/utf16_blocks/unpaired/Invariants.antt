@@ -1,0 +1,11 @@
+use Prim.Native.Nat.{◌-◌, ◌≤◌}
+use native.Mathlib.Omega.{arith}
+use Rattle.measure_runs.proofs.Utf16Tests.{PairedUnless, paired_none, paired_more, paired-end}
+use borrow.Author.Rules.{rules}
+use Rattle.measure_runs.proofs.utf16_blocks.unpaired.Given as goal
+
+abbrev pub invariant-loop-k : goal.invariant-loop-k
+invariant-loop-k l = (l.k ≤ l.pairs) × PairedUnless l.bad l.src l.at l.k
+
+abbrev pub decreases-loop-k : goal.decreases-loop-k
+decreases-loop-k l = l.pairs - l.k

@@ -1,0 +1,15 @@
+use Prim.Native.Nat.{◌+◌, ◌-◌, ◌≤◌}
+use mathlib.Core.Path.{sym, ◌∙◌}
+use mathlib.Core.List.{map}
+use Rattle.forms.specs.Exchange.{i8_of}
+use Rattle.laws.proofs.Blocks.{AtMost, at-most-none, at-most-or, at-most-all}
+use Rattle.measure_runs.proofs.UtfEbcdicExchanging.{exchanged-at}
+use borrow.Author.Rules.{rules}
+use native.Mathlib.Omega.{arith}
+use Rattle.measure_runs.proofs.utf_ebcdic.or16.Given as goal
+
+abbrev pub invariant-loop-i : goal.invariant-loop-i
+invariant-loop-i l = (l.i ≤ 16) × AtMost (map i8_of l.src) l.at l.i l.joined
+
+abbrev pub decreases-loop-i : goal.decreases-loop-i
+decreases-loop-i l = 16 - l.i
