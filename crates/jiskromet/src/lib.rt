@@ -1,8 +1,8 @@
-// What a gateway links: the calls of the library under their C names, as `include/jiskromet.h` declares them. Here: the item at an offset;
+// What a gateway calls: the calls of the library under their C names, as `include/jiskromet.h` declares them. Here: the item at an offset;
 // `conversions`, `decodings` and `finders` have the others.
 //
 // Each answer is a struct of numbers: `c_answers` has them, in `specs/Answer` which number stands for which case, and in `specs/Promises`
-// what converters, measures and lossy decodings promise.
+// what converters, measures and lossy decodings promise. `jiskromet_c` exports them to C.
 #![tactic(auto)]
 
 pub mod conversions;
@@ -17,32 +17,28 @@ ghost use Rattle.c_answers.specs.Answer.{item_answer};
 use c_answers::JkItem;
 use reader::Cursor;
 
-#[unsafe(no_mangle)]
-pub extern "C" fn jk_fss_utf_item_at(text: &[u8], offset: usize) -> JkItem
+pub fn jk_fss_utf_item_at(text: &[u8], offset: usize) -> JkItem
     ensures { result ≡ item_answer (step_at fss_utf text.now (cursor offset)) }
 {
     let at = Cursor { offset };
     c_answers::item_answer(at.step_fss_utf(text))
 }
 
-#[unsafe(no_mangle)]
-pub extern "C" fn jk_utf_ebcdic_item_at(text: &[u8], offset: usize) -> JkItem
+pub fn jk_utf_ebcdic_item_at(text: &[u8], offset: usize) -> JkItem
     ensures { result ≡ item_answer (step_at utf_ebcdic text.now (cursor offset)) }
 {
     let at = Cursor { offset };
     c_answers::item_answer(at.step_utf_ebcdic(text))
 }
 
-#[unsafe(no_mangle)]
-pub extern "C" fn jk_utf16_item_at(text: &[u16], offset: usize) -> JkItem
+pub fn jk_utf16_item_at(text: &[u16], offset: usize) -> JkItem
     ensures { result ≡ item_answer (step_at utf16 text.now (cursor offset)) }
 {
     let at = Cursor { offset };
     c_answers::item_answer(at.step_utf16(text))
 }
 
-#[unsafe(no_mangle)]
-pub extern "C" fn jk_ucs4_item_at(text: &[u32], offset: usize) -> JkItem
+pub fn jk_ucs4_item_at(text: &[u32], offset: usize) -> JkItem
     ensures { result ≡ item_answer (step_at ucs4 text.now (cursor offset)) }
 {
     let at = Cursor { offset };
