@@ -7,7 +7,7 @@ use mathlib.Core.List.{List, [], ◌∷◌, map}
 use mathlib.Core.Option.{none}
 use native.Mathlib.Omega.{arith}
 use native.Mathlib.Decide.{dec_lt}
-use borrow.Author.Tests.{le-ltb, not_true}
+use borrow.Author.Tests.{le-ltb, not-true}
 use lib.ListN.{length, length-map}
 use Rattle.forms.specs.Form.{Role, lead, trailing, invalid, Sequence, sequence, size, Form, asked, taken, first_of, encode}
 use Rattle.forms.specs.Layout.{Layout, row_at, value_of, form_of}
@@ -34,7 +34,7 @@ is_invalid trailing = false
 is_invalid invalid = true
 
 valid : (F : Form) (u : ℕ) → not (is_invalid (F.role u)) ≡ true → F.role u ≢ invalid
-valid F u h e = let z : true ≡ false = sym (ap is_invalid e) ∙ not_true (is_invalid (F.role u)) h in let y : ◌≡◌ {A = ℕ} 0 1 = cc in omega arith
+valid F u h e = let z : true ≡ false = sym (ap is_invalid e) ∙ not-true (is_invalid (F.role u)) h in let y : ◌≡◌ {A = ℕ} 0 1 = cc in omega arith
 
 leads_so : {k : ℕ} {o : Role} → o ≡ lead k → o ≢ invalid
 leads_so e n = let z : ◌≡◌ {A = ℕ} 0 1 = cc in omega arith
