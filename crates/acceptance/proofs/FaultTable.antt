@@ -53,6 +53,7 @@ fss_utf-marked k (inr (inr (inr (inr (inl e))))) =
       shown = refl;
       turned = λ G. refl;
     }
+fss_utf-marked k (inr (inr (inr (inr (inr x5))))) = elim x5 [ ]
 
 utf_ebcdic-marked : (k : ℕ) → Among k (2 ∷ 3 ∷ 5 ∷ 10 ∷ []) → Marked utf_ebcdic 0x100 k
 utf_ebcdic-marked k (inl e) =
@@ -71,18 +72,21 @@ utf_ebcdic-marked k (inr (inr (inr (inl e)))) =
       shown = refl;
       turned = λ G. refl;
     }
+utf_ebcdic-marked k (inr (inr (inr (inr x4)))) = elim x4 [ ]
 
 utf16-marked : (k : ℕ) → Among k (2 ∷ 3 ∷ []) → Marked utf16 0x10000 k
 utf16-marked k (inl e) =
     record { text = 0xD800 ∷ []; below = (omega arith, tt); fault = MissingTrailing; number = sym e; long = 1; shown = refl; turned = λ G. refl }
 utf16-marked k (inr (inl e)) =
     record { text = 0xDC00 ∷ []; below = (omega arith, tt); fault = StrayTrailing; number = sym e; long = 1; shown = refl; turned = λ G. refl }
+utf16-marked k (inr (inr x'')) = elim x'' [ ]
 
 ucs4-marked : (k : ℕ) → Among k (4 ∷ 10 ∷ []) → Marked ucs4 0x100000000 k
 ucs4-marked k (inl e) =
     record { text = 0x80000000 ∷ []; below = (omega arith, tt); fault = InvalidUnit; number = sym e; long = 1; shown = refl; turned = λ G. refl }
 ucs4-marked k (inr (inl e)) =
     record { text = 0xD800 ∷ []; below = (omega arith, tt); fault = Surrogate; number = sym e; long = 1; shown = refl; turned = λ G. refl }
+ucs4-marked k (inr (inr x'')) = elim x'' [ ]
 
 -- a form as a source, with the faults of its marks
 pub record Source (F : Form) (w : ℕ) (ms : List ℕ) : Type 0 where

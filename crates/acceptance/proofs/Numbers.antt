@@ -60,6 +60,7 @@ all_in (m ∷ ms) ns = has m ns && all_in ms ns
 pub all_in_lem : (k : ℕ) (ms ns : List ℕ) → all_in ms ns ≡ true → Among k ms → Among k ns
 all_in_lem k (m ∷ ms) ns h (inl e) = among k m ns (and_left (has m ns) (all_in ms ns) h) e
 all_in_lem k (m ∷ ms) ns h (inr a) = all_in_lem k ms ns (and_right (has m ns) (all_in ms ns) h) a
+all_in_lem k [] ns h x'' = elim x'' [ ]
 
 -- a number that it has not
 pub not-among : (k n : ℕ) (ns : List ℕ) → has n ns ≡ false → Among k ns → k ≢ n
@@ -69,3 +70,4 @@ not-among k n (m ∷ ns) h (inr a) e = not-among k n ns (or_false (eqb n m) h) a
     or_false : (b : Bool) → (b || has n ns) ≡ false → has n ns ≡ false
     or_false true w = absurd (let y : ◌≡◌ {A = ℕ} 0 1 = cc in omega arith)
     or_false false w = w
+not-among k n [] h x3 e = elim x3 [ ]

@@ -113,6 +113,7 @@ to_any {F} {G} {most} {w} {ms} ks a p holds non all twelve none-else =
     go : (k : ℕ) → Among k ms ⊎ Among k (12 ∷ []) → Refused F G w k
     go k (inl m) = by_mark G (a.marked_by k m)
     go k (inr (inl e)) = numbered non e
+    go k (inr (inr x'')) = elim x'' [ ]
 
 -- one that does not: 6 besides
 to-utf16 :
@@ -126,6 +127,7 @@ to-utf16 {F} {most} {w} {ms} ks a p non large all twelve six none-else =
     go k (inl m) = by_mark utf16 (a.marked_by k m)
     go k (inr (inl e)) = numbered non e
     go k (inr (inr (inl e))) = numbered large e
+    go k (inr (inr (inr x3))) = elim x3 [ ]
 
 -- FFFF, of each form
 fss_utf_non : (G : Form) → outcome fss_utf G (0xEF ∷ 0xBF ∷ 0xBF ∷ []) ≡ refused (refusal NonCharacter 0) → Refused fss_utf G 0x100 12
