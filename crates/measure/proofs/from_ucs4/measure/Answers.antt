@@ -1,0 +1,36 @@
+use Prim.Native.Nat.{◌+◌, ◌-◌}
+use mathlib.Core.Path.{ap, ◌∙◌}
+use native.Mathlib.Omega.{arith}
+use borrow.Author.Rules.{rules}
+use lib.ListN.{length}
+use Rattle.forms.specs.Forms.{ucs4, turned_away}
+use Rattle.laws.proofs.FourForms.{ucs4_laws}
+use Rattle.forms.specs.Conversion.{refusal_at}
+use Rattle.laws.proofs.Progress.{CharacterAt, character-at, mark-at, character-value, character-onward}
+use Rattle.encoder.specs.Target.{target_form}
+use Rattle.encoder.proofs.Targets.{encode_seven, refused_by_lem}
+use Rattle.laws.proofs.Measuring.{Measuring, measuring_begin, measuring-over, measuring-end, measuring-mark, measuring-unheld, measuring_more, measuring_run}
+use Rattle.measure.proofs.from_ucs4.measure.Goals as goal
+
+pub loop-at-preserved-then-passed-ne0 : goal.loop-at-preserved-then-passed-ne0
+loop-at-preserved-then-passed-ne0 c =
+    let passed : (let a = c.args in
+    Measuring ucs4 (target_form a.target) a.src.now (c.loop-at.at + c.count-run.result.length) (c.loop-at.units + c.count-run.result.units)) =
+    measuring_run c.loop-at.invariant c.count-run.ensures in
+    passed
+
+pub overflow_add-units-in-loop-at : goal.overflow_add-units-in-loop-at
+overflow_add-units-in-loop-at c =
+    let read : CharacterAt ucs4 c.args.src.now c.loop-at.at c.in-Character.value c.in-Character.span =
+    character-at c.loop-at-test.true c.item_at-item.ensures c.in-Character.is in
+    let turned : Measuring ucs4 (target_form c.args.target) c.args.src.now (c.loop-at.at + c.in-Character.span.length) (c.loop-at.units + c.encoded_length-length.result) =
+    measuring_more c.loop-at.invariant read c.encoded_length-length.ensures c.if-length-eq0.false (encode_seven c.args.target c.in-Character.value) in
+    omega (arith, turned.small, turned.progress.within, turned.short)
+
+pub loop-at-preserved : goal.loop-at-preserved
+loop-at-preserved c =
+    let read : CharacterAt ucs4 c.args.src.now c.loop-at.at c.in-Character.value c.in-Character.span =
+    character-at c.loop-at-test.true c.item_at-item.ensures c.in-Character.is in
+    let turned : Measuring ucs4 (target_form c.args.target) c.args.src.now (c.loop-at.at + c.in-Character.span.length) (c.loop-at.units + c.encoded_length-length.result) =
+    measuring_more c.loop-at.invariant read c.encoded_length-length.ensures c.if-length-eq0.false (encode_seven c.args.target c.in-Character.value) in
+    turned

@@ -1,0 +1,27 @@
+use Prim.Native.Nat.{◌+◌, ◌-◌, ◌≤◌, ◌<◌}
+use mathlib.Core.Path.{refl}
+use lib.ListN.{get_or}
+use Rattle.laws.proofs.UnitEncodings.{ucs4_below}
+use Rattle.laws.proofs.Blocks.{AtMost, at-most-none, at-most-or, Held, held_none, held_more, Copied, copied_none, copied_more}
+use Rattle.laws.proofs.Runs.{wrote_none, wrote_block}
+use Rattle.measure_runs.proofs.FssUtfAsciiCounting.{ascii_run}
+use borrow.Author.Rules.{rules}
+use native.Mathlib.Omega.{arith}
+use Rattle.runs_from_fss_utf.proofs.to_ucs4.copy16.Goals as goal
+
+pub loop-i-preserved : goal.loop-i-preserved
+loop-i-preserved c = (omega arith, at-most-or _ c.loop-i.invariant.1 c.wide-unit.ensures, held_more _ c.loop-i.invariant.2 c.loop-i-test.true c.wide-unit.ensures)
+
+pub loop-k-preserved : goal.loop-k-preserved
+loop-k-preserved c = copied_more c.loop-k.invariant c.requires.1 c.loop-i.invariant.2.long c.loop-k-test.true
+
+pub returns : goal.returns
+returns c = let l = c.loop-i.invariant in (
+  omega arith,
+  wrote_block (omega (arith, c.requires.0)) l.2.long
+      (λ j h.
+      let u = get_or c.args.src.now (c.args.at + j) 0 in
+      let a : u < 0x80 = omega (arith, l.1.each j (omega arith), c.if-joined-ge128.false) in
+      ascii_run (omega (arith, c.requires.0)) a (ucs4_below u (omega arith)) (l.2.each j (omega arith)))
+      c.loop-k.invariant c.loop-k-test.false,
+)
