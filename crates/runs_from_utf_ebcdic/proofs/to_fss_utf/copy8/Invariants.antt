@@ -1,0 +1,23 @@
+use Prim.Native.Nat.{◌+◌, ◌-◌, ◌≤◌}
+use mathlib.Core.Path.{refl, sym, ◌∙◌}
+use mathlib.Core.List.{map}
+use Rattle.forms.specs.Exchange.{i8_of}
+use Rattle.laws.proofs.Blocks.{AtMost, at-most-none, at-most-or, Held, held_none, held_more, Copied, copied_none, copied_more}
+use Rattle.laws.proofs.Runs.{wrote_none}
+use Rattle.measure_runs.proofs.UtfEbcdicExchanging.{exchanged-at, ascii_wrote}
+use Rattle.encoder.proofs.FssUtf.{one_byte}
+use borrow.Author.Rules.{rules}
+use native.Mathlib.Omega.{arith}
+use Rattle.runs_from_utf_ebcdic.proofs.to_fss_utf.copy8.Given as goal
+
+abbrev pub invariant-loop-i : goal.invariant-loop-i
+invariant-loop-i l = (l.i ≤ 8) × AtMost (map i8_of l.src) l.at l.i l.joined × Held i8_of l.src l.at 8 l.i l.block
+
+abbrev pub decreases-loop-i : goal.decreases-loop-i
+decreases-loop-i l = 8 - l.i
+
+abbrev pub invariant-loop-k : goal.invariant-loop-k
+invariant-loop-k l = Copied l.initial.dst l.written 8 l.block l.k l.dst
+
+abbrev pub decreases-loop-k : goal.decreases-loop-k
+decreases-loop-k l = 8 - l.k

@@ -1,0 +1,20 @@
+use Prim.Native.Nat.{◌+◌, ◌-◌, ◌≤◌}
+use mathlib.Core.Path.{refl, sym, ◌∙◌}
+use mathlib.Core.List.{map}
+use Rattle.forms.specs.Exchange.{i8_of}
+use Rattle.laws.proofs.Blocks.{AtMost, at-most-none, at-most-or, Held, held_none, held_more, Copied, copied_none, copied_more}
+use Rattle.laws.proofs.Runs.{wrote_none}
+use Rattle.measure_runs.proofs.UtfEbcdicExchanging.{exchanged-at, ascii_wrote}
+use Rattle.laws.proofs.UnitEncodings.{below_surrogates}
+use borrow.Author.Rules.{rules}
+use native.Mathlib.Omega.{arith}
+use Rattle.runs_from_utf_ebcdic.proofs.to_utf16.copy8.Goals as goal
+
+pub loop-i-preserved : goal.loop-i-preserved
+loop-i-preserved c = let l = c.loop-i in let e = c.wide-unit.ensures ∙ c.exchanged.ensures in (omega arith, at-most-or _ l.invariant.1 (e ∙ sym (exchanged-at c.args.src.now (c.args.at + l.i))), held_more _ l.invariant.2 c.loop-i-test.true e)
+
+pub loop-k-preserved : goal.loop-k-preserved
+loop-k-preserved c = copied_more c.loop-k.invariant c.requires.2 c.loop-i.invariant.2.long c.loop-k-test.true
+
+pub returns : goal.returns
+returns c = let l = c.loop-i.invariant in (omega arith, ascii_wrote (λ v h. below_surrogates v (omega arith)) c.requires.1 l.1 c.if-joined-ge128.false l.2 c.loop-i-test.false c.loop-k.invariant c.loop-k-test.false)
