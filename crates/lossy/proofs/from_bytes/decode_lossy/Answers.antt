@@ -1,0 +1,43 @@
+use Prim.Native.Nat.{◌-◌}
+use native.Mathlib.Omega.{arith}
+use borrow.Author.Rules.{rules}
+use borrow.Author.Tests.{not-true, not-false}
+use lib.ListN.{length}
+use Rattle.tables.specs.ByteForms.{byte_form}
+use Rattle.tables.proofs.ByteLayouts.{byte_laws}
+use Rattle.laws.proofs.Marks.{mark-most}
+use Rattle.laws.proofs.ReadItems.{ItemAt, item-at, item-onward}
+use Rattle.lossy_runs.proofs.Filling.{Filling, filling_over, filling_short, filling_begin, filling_end, filling_next, filling_more, filling_room, filling_run, filling_none}
+use Rattle.lossy.proofs.from_bytes.decode_lossy.Goals as goal
+
+pub loop-at-preserved-then-to-at : goal.loop-at-preserved-then-to-at
+loop-at-preserved-then-to-at c = filling_run c.loop-at.invariant c.read_on-run.ensures
+
+pub loop-at-smaller : goal.loop-at-smaller
+loop-at-smaller c =
+    let read : ItemAt (byte_form c.args.form) c.args.text.now c.loop-at.at c.item_at-item.result c.span-span.result =
+    item-at c.loop-at-test.true c.item_at-item.ensures c.span-span.ensures in
+    omega (arith, item-onward read)
+
+pub loop-at-preserved : goal.loop-at-preserved
+loop-at-preserved c =
+    let read : ItemAt (byte_form c.args.form) c.args.text.now c.loop-at.at c.item_at-item.result c.span-span.result =
+    item-at c.loop-at-test.true c.item_at-item.ensures c.span-span.ensures in
+    let filling : (Filling (byte_form c.args.form) c.args.text.now c.args.values.now c.args.starts.now
+    c.loop-at.at c.loop-at.items c.loop-at.marks
+    c.read_on-run.new.values c.read_on-run.new.starts) =
+    filling_none c.loop-at.invariant c.read_on-run.ensures c.if-to-at.false in
+    filling_more filling read c.value.ensures c.mark_count-marks.ensures
+
+pub returns : goal.returns
+returns c = filling_end (byte_laws c.args.form) c.loop-at.invariant c.loop-at-test.false
+
+pub overflow_add-at : goal.overflow_add-at
+overflow_add-at c =
+    let read : ItemAt (byte_form c.args.form) c.args.text.now c.loop-at.at c.item_at-item.result c.span-span.result =
+    item-at c.loop-at-test.true c.item_at-item.ensures c.span-span.ensures in
+    let filling : (Filling (byte_form c.args.form) c.args.text.now c.args.values.now c.args.starts.now
+    c.loop-at.at c.loop-at.items c.loop-at.marks
+    c.read_on-run.new.values c.read_on-run.new.starts) =
+    filling_none c.loop-at.invariant c.read_on-run.ensures c.if-to-at.false in
+    omega (arith, (item-onward read).1, filling.short)

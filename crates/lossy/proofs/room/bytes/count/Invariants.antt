@@ -1,0 +1,14 @@
+use Prim.Native.Nat.{◌-◌}
+use native.Mathlib.Omega.{arith}
+use borrow.Author.Rules.{rules}
+use lib.ListN.{length}
+use Rattle.tables.specs.ByteForms.{byte_form}
+use Rattle.laws.proofs.ReadItems.{ItemAt, item-at, item-onward}
+use Rattle.lossy.proofs.Counting.{Counting, counting_begin, counting_more, counting_end}
+use Rattle.lossy.proofs.room.bytes.count.Given as goal
+
+abbrev pub invariant-loop-at : goal.invariant-loop-at
+invariant-loop-at l = Counting (byte_form l.form) l.text l.at l.count
+
+abbrev pub decreases-loop-at : goal.decreases-loop-at
+decreases-loop-at l = length l.text - l.at
