@@ -1,0 +1,8 @@
+use Prim.Native.Nat.{◌-◌, ◌≤◌}
+use native.Mathlib.Omega.{arith}
+use Rattle.laws.proofs.Values.{CopiedTo, copied_none, copied_more, copied_length, copied_all}
+use borrow.Author.Rules.{rules}
+use Rattle.runs_from_utf16.proofs.decoding.widen.Goals as goal
+
+pub loop-k-preserved : goal.loop-k-preserved
+loop-k-preserved c = (omega (arith, c.loop-k-test.true), copied_more c.requires.0 c.requires.1 c.loop-k.invariant.1 c.wide.result c.wide.ensures c.loop-k-test.true)

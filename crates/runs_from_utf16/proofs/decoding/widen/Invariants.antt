@@ -1,0 +1,11 @@
+use Prim.Native.Nat.{◌-◌, ◌≤◌}
+use native.Mathlib.Omega.{arith}
+use Rattle.laws.proofs.Values.{CopiedTo, copied_none, copied_more, copied_length, copied_all}
+use borrow.Author.Rules.{rules}
+use Rattle.runs_from_utf16.proofs.decoding.widen.Given as goal
+
+abbrev pub invariant-loop-k : goal.invariant-loop-k
+invariant-loop-k l = (l.k ≤ l.count) × CopiedTo l.src l.at l.k l.initial.dst l.from l.dst
+
+abbrev pub decreases-loop-k : goal.decreases-loop-k
+decreases-loop-k l = l.count - l.k

@@ -1,0 +1,8 @@
+use Prim.Native.Nat.{◌-◌, ◌≤◌}
+use native.Mathlib.Omega.{arith}
+use Rattle.laws.proofs.Values.{CopiedTo, copied_none, copied_more, copied_length, copied_all}
+use borrow.Author.Rules.{rules}
+use Rattle.runs_from_utf16.proofs.to_fss_utf.copy.Goals as goal
+
+pub loop-k-preserved : goal.loop-k-preserved
+loop-k-preserved c = (omega (arith, c.loop-k-test.true), copied_more c.requires.0 c.requires.1 c.loop-k.invariant.1 c.low.result c.low.ensures c.loop-k-test.true)

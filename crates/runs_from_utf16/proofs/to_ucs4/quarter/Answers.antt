@@ -1,0 +1,12 @@
+use native.Mathlib.Omega.{arith}
+use Rattle.runs_from_utf16.proofs.Singles.{widened_room, widened_wrote}
+use borrow.Author.Rules.{rules}
+use Rattle.runs_from_utf16.proofs.to_ucs4.quarter.Goals as goal
+
+pub widen-requires : goal.widen-requires
+widen-requires c = let p = c.requires in
+    (p.1, widened_room p.2 p.1 (λ i. omega (arith, c.shared_slice_known-1.given i)) (c.surrogates.ensures c.if-surrogates.false))
+
+pub returns : goal.returns
+returns c = let p = c.requires in
+    (widened_wrote p.2 p.1 (λ i. omega (arith, c.shared_slice_known-1.given i)) (c.surrogates.ensures c.if-surrogates.false) c.widen.ensures, omega arith)

@@ -1,0 +1,21 @@
+use Prim.Native.Nat.{◌-◌}
+use native.Mathlib.Omega.{arith}
+use lib.ListN.{length as long}
+use Rattle.forms.specs.Forms.{utf16, ucs4}
+use Rattle.laws.proofs.Values.{WrittenTo, written_none, written-length, written_left, written_run, written_wrote, written-within}
+use borrow.Author.Rules.{rules}
+use Rattle.runs_from_utf16.proofs.to_ucs4.write.Goals as goal
+
+pub loop-length-init : goal.loop-length-init
+loop-length-init c = written_none c.requires.0
+
+pub loop-length-preserved : goal.loop-length-preserved
+loop-length-preserved c = let b = c.large-run in
+    written_run c.requires.1 c.loop-length.invariant b.ensures.0
+
+pub block-run-requires : goal.block-run-requires
+block-run-requires c = (omega (arith, c.loop-length.invariant.run.inside), written_left c.requires.1 c.loop-length.invariant)
+
+pub returns : goal.returns
+returns c = let b = c.block-run in
+    written_wrote (written_run c.requires.1 c.loop-length.invariant b.ensures.0)
