@@ -1,5 +1,5 @@
 -- The table of document 01, "Byte layouts", as printed there: leads and values for each number of bytes.
-use Rattle.std.specs.Prelude.{ℕ, zero, suc, ◌-◌, List, [], ◌∷◌, length}
+use Rattle.std.specs.Prelude.{ℕ, suc, ◌-◌, List, [], ◌∷◌}
 use Rattle.forms.specs.Layout.{Layout, Row, row_at, row_limit, lowest_of}
 
 pub record TableRow : Type 0 where

@@ -1,5 +1,5 @@
 -- Document 01's mended reading of a text: lossy decoding.
-use Rattle.std.specs.Prelude.{ℕ, ◌+◌, ◌≡◌, cond, ◌||◌, List, [], ◌∷◌, ◌++◌, map, length, drop, ltb}
+use Rattle.std.specs.Prelude.{ℕ, ◌+◌, cond, ◌||◌, List, [], ◌∷◌, ◌++◌, map, length, drop, ltb}
 use Rattle.types.specs.declared.Fault.TheVariants.{SourceTooLong, BufferTooShort}
 use Rattle.types.specs.declared.Item.{Item}
 use Rattle.types.specs.declared.Item.TheVariants.{Character, Mark}

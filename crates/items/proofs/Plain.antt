@@ -5,7 +5,7 @@ use mathlib.Core.Bool.{false}
 use mathlib.Core.List.{List, [], ◌∷◌, map, map-id}
 use native.Mathlib.Omega.{arith}
 use lib.ListN.{length, get_or, drop, length-map, get_or-map}
-use Rattle.forms.specs.Form.{Role, lead, trailing, invalid, Form, is_trailing, first_of, item_of}
+use Rattle.forms.specs.Form.{Role, lead, trailing, invalid, is_trailing, first_of, item_of}
 use Rattle.forms.specs.Layout.{role_of, form_of}
 use Rattle.forms.specs.Exchange.{i8_of, ebcdic_of}
 use Rattle.forms.specs.Forms.{i8, utf_ebcdic}

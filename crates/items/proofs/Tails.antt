@@ -8,7 +8,7 @@ use native.Mathlib.Nat.{pow-zero, pow-succ', mul_assoc, add-mul, one-mul, mul-le
 use native.Mathlib.Numerals.{add-one}
 use lib.ListN.{length, get_or, drop, drop_of_length-le}
 use lib.Seq.{drop-cons}
-use Rattle.forms.specs.Form.{trailing, Form, is_trailing, taken}
+use Rattle.forms.specs.Form.{trailing, is_trailing, taken}
 use Rattle.forms.specs.Layout.{Layout, role_of, number, form_of}
 use Rattle.laws.proofs.Digits.{IsDigit}
 use Rattle.laws.proofs.LayoutLaws.{trailing_digit}

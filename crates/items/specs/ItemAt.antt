@@ -1,5 +1,5 @@
 -- The item at an offset inside a text: "Reading at a place reads as though the text began there."
-use Rattle.std.specs.Prelude.{ℕ, ◌+◌, ◌*◌, ◌^◌, ◌≡◌, List, length, get_or, drop}
+use Rattle.std.specs.Prelude.{ℕ, ◌+◌, List, get_or, drop}
 use Rattle.types.specs.declared.Item.{Item}
 use Rattle.forms.specs.Form.{Form, first_of, item_of}
 

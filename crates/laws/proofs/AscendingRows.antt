@@ -1,15 +1,15 @@
 -- A layout whose rows ascend from 0 and keep off the trailing units fits: one computed test, which both byte layouts and UCS-4 pass.
-use Prim.Native.Nat.{ℕ, zero, suc, ◌+◌, ◌-◌, ◌*◌, ◌/◌, ◌^◌, ◌≤◌, ◌<◌}
+use Prim.Native.Nat.{ℕ, zero, suc, ◌+◌, ◌-◌, ◌^◌, ◌≤◌, ◌<◌}
 use mathlib.Core.Path.{◌≡◌, refl}
-use mathlib.Core.Bool.{Bool, true, false, cond, ◌&&◌, ◌||◌}
+use mathlib.Core.Bool.{Bool, true, false, ◌&&◌, ◌||◌}
 use mathlib.Core.List.{List, [], ◌∷◌}
 use native.Mathlib.Omega.{arith}
 use native.Mathlib.Nat.{not-suc-le-zero, le_of_suc-le-suc, add-zero, zero-add, add-suc, suc-add, mul-pos}
 use lib.Dec.{leb, ltb, eqb}
 use borrow.Author.Tests.{ltb-true, leb-true, eqb-true}
 use lib.ListN.{length, get_or}
-use Rattle.forms.specs.Form.{Role, lead, trailing, invalid}
-use Rattle.forms.specs.Layout.{Row, row, Layout, within, or_lead, lead_in, role_of, row_at, limit_of, row_limit}
+use Rattle.forms.specs.Form.{lead, invalid}
+use Rattle.forms.specs.Layout.{Row, row, Layout, lead_in, role_of, row_at, limit_of, row_limit}
 use Rattle.laws.proofs.Table.{and_left, and_right}
 use Rattle.laws.proofs.Rows.{within_in, within_below, trails, trails_below, trails_above}
 use Rattle.laws.proofs.LayoutLaws.{Fit}

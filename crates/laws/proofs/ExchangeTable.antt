@@ -2,17 +2,16 @@
 use Prim.Native.Nat.{ℕ, ◌≤◌, ◌<◌}
 use mathlib.Core.Path.{◌≡◌, refl}
 use mathlib.Core.Logic.{◌≢◌}
-use mathlib.Core.Bool.{Bool, true}
 use native.Mathlib.Omega.{arith}
 use native.Mathlib.Decide.{dec_lt}
 use lib.Dec.{ltb, eqb}
 use borrow.Author.Tests.{eqb-true, ltb-true}
 use lib.ListN.{get_or-eq_default}
-use Rattle.forms.specs.Form.{Role, invalid}
+use Rattle.forms.specs.Form.{invalid}
 use Rattle.forms.specs.Layout.{role_of}
 use Rattle.forms.specs.Exchange.{exchange, i8_of, ebcdic_of}
 use Rattle.forms.specs.Forms.{byte_layout}
-use Rattle.laws.proofs.Table.{all_below, below}
+use Rattle.laws.proofs.Table.{below}
 use Rattle.laws.proofs.Rows.{invalid_above}
 
 pub inverse_of_exchange : (b : ℕ) → b < 0x100 → ebcdic_of (i8_of b) ≡ b

@@ -15,7 +15,7 @@ use Rattle.types.specs.declared.Item.{Item}
 use Rattle.types.specs.declared.Item.TheVariants.{Character, Mark}
 use Rattle.forms.specs.Form.{Form, span, span_of, item_of, encode}
 use Rattle.forms.specs.Buffer.{with_units}
-use Rattle.forms.specs.Conversion.{converted, encoding, refusal_at, prepend, put, convert_items}
+use Rattle.forms.specs.Conversion.{converted, encoding, refusal_at, prepend, convert_items}
 use Rattle.laws.proofs.Items.{items_onward, sequence_at, items_step, length_at}
 use Rattle.laws.proofs.Outcomes.{prepend-converted, put_some, put-converted}
 use Rattle.laws.proofs.Blocks.{Copied}

@@ -1,5 +1,5 @@
-use Rattle.std.proofs.Common.{refl, rules}
-use Rattle.characters.proofs.Shorts.{none-there, four_bytes}
+use Rattle.std.proofs.Common.{refl}
+use Rattle.characters.proofs.Shorts.{four_bytes}
 use Rattle.characters.proofs.fss_utf.four_at.Goals as goal
 
 pub returns : goal.returns

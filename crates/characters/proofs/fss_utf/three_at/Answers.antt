@@ -1,5 +1,5 @@
-use Rattle.std.proofs.Common.{sym, refl, ◌∙◌, rules}
-use Rattle.characters.proofs.Shorts.{none-there, three_bytes}
+use Rattle.std.proofs.Common.{sym, refl, ◌∙◌}
+use Rattle.characters.proofs.Shorts.{three_bytes}
 use Rattle.characters.proofs.fss_utf.three_at.Goals as goal
 
 pub returns : goal.returns

@@ -1,5 +1,5 @@
-use Rattle.std.proofs.Common.{refl, rules}
-use Rattle.characters.proofs.Shorts.{none-there, two_bytes}
+use Rattle.std.proofs.Common.{refl}
+use Rattle.characters.proofs.Shorts.{two_bytes}
 use Rattle.characters.proofs.fss_utf.two_at.Goals as goal
 
 pub returns : goal.returns

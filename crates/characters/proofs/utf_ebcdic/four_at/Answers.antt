@@ -1,6 +1,5 @@
-use Rattle.std.proofs.Common.{sym, ◌∙◌, arith, rules}
+use Rattle.std.proofs.Common.{sym, ◌∙◌, arith}
 use Rattle.tables.specs.declared.ByteForm.TheVariants.{UtfEbcdic}
-use Rattle.characters.proofs.Shorts.{none-there}
 use Rattle.characters.proofs.ByteCharacters.{four_bytes}
 use Rattle.characters.proofs.utf_ebcdic.four_at.Goals as goal
 

@@ -1,7 +1,7 @@
-use Rattle.std.proofs.Common.{◌+◌, ◌*◌, arith, rules}
+use Rattle.std.proofs.Common.{◌+◌, ◌*◌, arith}
 use Rattle.tables.specs.declared.ByteForm.TheVariants.{UtfEbcdic}
 use Rattle.laws.proofs.Carried.{free_below}
-use Rattle.characters.proofs.Shorts.{none-there, or_left, or_right}
+use Rattle.characters.proofs.Shorts.{or_left, or_right}
 use Rattle.characters.proofs.ByteCharacters.{three_bytes}
 use Rattle.characters.proofs.utf_ebcdic.three_at.Goals as goal
 

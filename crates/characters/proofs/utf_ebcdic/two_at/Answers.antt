@@ -1,6 +1,5 @@
-use Rattle.std.proofs.Common.{◌+◌, ◌*◌, arith, rules}
+use Rattle.std.proofs.Common.{◌+◌, ◌*◌, arith}
 use Rattle.tables.specs.declared.ByteForm.TheVariants.{UtfEbcdic}
-use Rattle.characters.proofs.Shorts.{none-there}
 use Rattle.laws.proofs.Carried.{free_below}
 use Rattle.characters.proofs.ByteCharacters.{two_bytes}
 use Rattle.characters.proofs.utf_ebcdic.two_at.Goals as goal

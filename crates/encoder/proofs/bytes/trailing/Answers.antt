@@ -1,6 +1,4 @@
-use Prim.Native.Nat.{◌-◌}
-use native.Mathlib.Omega.{arith}
-use Rattle.encoder.proofs.Lengths.{Counting, rows, counting_begin, counting_more, counting_end}
+use Rattle.encoder.proofs.Lengths.{counting_more, counting_end}
 use Rattle.encoder.proofs.bytes.trailing.Goals as goal
 
 pub loop-form-preserved : goal.loop-form-preserved

@@ -1,6 +1,5 @@
 use Prim.Native.Nat.{◌-◌}
-use native.Mathlib.Omega.{arith}
-use Rattle.encoder.proofs.Lengths.{Counting, rows, counting_begin, counting_more, counting_end}
+use Rattle.encoder.proofs.Lengths.{Counting}
 use Rattle.encoder.proofs.bytes.trailing.Given as goal
 
 abbrev pub invariant-loop-form : goal.invariant-loop-form

@@ -1,14 +1,11 @@
-use Prim.Native.Nat.{ℕ, ◌+◌, ◌-◌, ◌%◌, ◌<◌, ◌≤◌}
-use mathlib.Core.Path.{◌≡◌, sym, ap, ◌∙◌}
+use Prim.Native.Nat.{ℕ, ◌+◌, ◌≤◌}
+use mathlib.Core.Path.{◌≡◌, ap, ◌∙◌}
 use native.Mathlib.Omega.{arith}
-use native.Mathlib.Nat.{mod-lt}
-use borrow.Author.Rules.{rules}
-use lib.ListN.{length, length-set}
+use lib.ListN.{length}
 use Rattle.forms.specs.Form.{encode}
 use Rattle.forms.specs.Layout.{row_at}
 use Rattle.tables.specs.ByteForms.{byte_form, layout_of, unit_of}
-use Rattle.encoder.proofs.Lengths.{rows}
-use Rattle.encoder.proofs.Backward.{Backward, backward_begin, same-cells, backward_more, lead_byte, backward_end, Spelled, spelled_as}
+use Rattle.encoder.proofs.Backward.{backward_begin, backward_more, lead_byte, backward_end, Spelled, spelled_as}
 use Rattle.encoder.proofs.bytes.write.Goals as goal
 
 pub loop-left-init : goal.loop-left-init

@@ -1,13 +1,11 @@
-use native.Mathlib.Omega.{arith}
 use mathlib.Core.Path.{◌≡◌, ap, sym}
 use mathlib.Core.List.{List, [], ◌∷◌}
 use Prim.Native.Nat.{ℕ, ◌+◌, ◌/◌, ◌%◌}
-use lib.ListN.{length, length-set}
+use lib.ListN.{length}
 use Rattle.forms.specs.Form.{encode}
 use Rattle.forms.specs.Forms.{fss_utf}
 use Rattle.encoder.proofs.FssUtf.{three_bytes}
 use Rattle.laws.proofs.UnitEncodings.{put_three}
-use borrow.Author.Rules.{rules}
 use Rattle.encoder.proofs.fss_utf.three.Goals as goal
 
 pub returns : goal.returns

@@ -1,11 +1,8 @@
-use Prim.Native.Nat.{◌+◌, ◌-◌, ◌≤◌, ◌<◌}
-use mathlib.Core.Path.{◌≡◌}
+use Prim.Native.Nat.{◌+◌, ◌<◌}
 use native.Mathlib.Omega.{arith}
 use lib.ListN.{get_or}
-use Rattle.forms.specs.Forms.{fss_utf}
-use Rattle.laws.proofs.Values.{Encoded, encoded_start, encoded_put, encoded_length}
+use Rattle.laws.proofs.Values.{encoded_put}
 use Rattle.encoder.proofs.FssUtf.{one_byte}
-use borrow.Author.Rules.{rules}
 use Rattle.encoder.proofs.fss_utf_blocks.copy.Goals as goal
 
 pub bounds-dst-at : goal.bounds-dst-at

@@ -1,11 +1,6 @@
-use Prim.Native.Nat.{◌+◌, ◌-◌, ◌≤◌, ◌<◌}
-use mathlib.Core.Path.{◌≡◌}
-use native.Mathlib.Omega.{arith}
-use lib.ListN.{get_or}
+use Prim.Native.Nat.{◌+◌, ◌-◌, ◌≤◌}
 use Rattle.forms.specs.Forms.{fss_utf}
-use Rattle.laws.proofs.Values.{Encoded, encoded_start, encoded_put, encoded_length}
-use Rattle.encoder.proofs.FssUtf.{one_byte}
-use borrow.Author.Rules.{rules}
+use Rattle.laws.proofs.Values.{Encoded}
 use Rattle.encoder.proofs.fss_utf_blocks.copy.Given as goal
 
 abbrev pub invariant-loop-k : goal.invariant-loop-k

@@ -1,9 +1,6 @@
-use Prim.Native.Nat.{◌-◌, ◌≤◌}
-use mathlib.Core.Path.{◌≡◌, refl}
+use mathlib.Core.Path.{refl}
 use native.Mathlib.Omega.{arith}
-use Rattle.forms.specs.Forms.{fss_utf}
-use Rattle.laws.proofs.Values.{Encoded, encoded_none, encoded_one, value_room, encoded_join, encoded_length}
-use borrow.Author.Rules.{rules}
+use Rattle.laws.proofs.Values.{encoded_one, value_room, encoded_join}
 use Rattle.encoder.proofs.fss_utf_blocks.threes.Goals as goal
 
 pub three-end-requires : goal.three-end-requires

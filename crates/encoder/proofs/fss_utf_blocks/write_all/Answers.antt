@@ -1,8 +1,6 @@
 use Prim.Native.Nat.{◌+◌, ◌-◌, ◌≤◌}
 use native.Mathlib.Omega.{arith}
-use Rattle.forms.specs.Forms.{fss_utf}
-use Rattle.laws.proofs.Values.{Encoded, encoded_none, encoded_join, encoded_last, encoded_room, encoded_length, encodable_part}
-use borrow.Author.Rules.{rules}
+use Rattle.laws.proofs.Values.{encoded_join, encoded_last, encoded_room, encodable_part}
 use Rattle.encoder.proofs.fss_utf_blocks.write_all.Goals as goal
 
 pub block-end-requires : goal.block-end-requires

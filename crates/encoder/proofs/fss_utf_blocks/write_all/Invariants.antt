@@ -1,8 +1,6 @@
-use Prim.Native.Nat.{◌+◌, ◌-◌, ◌≤◌}
-use native.Mathlib.Omega.{arith}
+use Prim.Native.Nat.{◌-◌, ◌≤◌}
 use Rattle.forms.specs.Forms.{fss_utf}
-use Rattle.laws.proofs.Values.{Encoded, encoded_none, encoded_join, encoded_last, encoded_room, encoded_length, encodable_part}
-use borrow.Author.Rules.{rules}
+use Rattle.laws.proofs.Values.{Encoded}
 use Rattle.encoder.proofs.fss_utf_blocks.write_all.Given as goal
 
 abbrev pub invariant-loop-done : goal.invariant-loop-done

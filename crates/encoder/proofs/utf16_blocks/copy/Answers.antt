@@ -1,12 +1,10 @@
-use Prim.Native.Nat.{◌+◌, ◌-◌, ◌≤◌, ◌<◌}
-use mathlib.Core.Path.{◌≡◌}
+use Prim.Native.Nat.{◌+◌, ◌<◌}
 use native.Mathlib.Omega.{arith}
 use lib.ListN.{get_or}
 use Rattle.forms.specs.Forms.{utf16}
-use Rattle.laws.proofs.Values.{Encoded, encoded_start, encoded_put, encoded_length}
+use Rattle.laws.proofs.Values.{encoded_put}
 use Rattle.laws.proofs.FourForms.{utf16_laws}
 use Rattle.laws.proofs.UnitEncodings.{unit}
-use borrow.Author.Rules.{rules}
 use Rattle.encoder.proofs.utf16_blocks.copy.Goals as goal
 
 pub bounds-dst-at : goal.bounds-dst-at

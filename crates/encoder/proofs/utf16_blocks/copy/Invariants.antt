@@ -1,12 +1,6 @@
-use Prim.Native.Nat.{◌+◌, ◌-◌, ◌≤◌, ◌<◌}
-use mathlib.Core.Path.{◌≡◌}
-use native.Mathlib.Omega.{arith}
-use lib.ListN.{get_or}
+use Prim.Native.Nat.{◌+◌, ◌-◌, ◌≤◌}
 use Rattle.forms.specs.Forms.{utf16}
-use Rattle.laws.proofs.Values.{Encoded, encoded_start, encoded_put, encoded_length}
-use Rattle.laws.proofs.FourForms.{utf16_laws}
-use Rattle.laws.proofs.UnitEncodings.{unit}
-use borrow.Author.Rules.{rules}
+use Rattle.laws.proofs.Values.{Encoded}
 use Rattle.encoder.proofs.utf16_blocks.copy.Given as goal
 
 abbrev pub invariant-loop-k : goal.invariant-loop-k

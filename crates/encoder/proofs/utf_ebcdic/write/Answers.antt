@@ -1,14 +1,12 @@
-use native.Mathlib.Omega.{arith}
 use mathlib.Core.Path.{◌≡◌, ap, sym, ◌∙◌}
 use mathlib.Core.List.{List, [], ◌∷◌}
 use Prim.Native.Nat.{ℕ, ◌+◌, ◌/◌, ◌%◌}
-use lib.ListN.{length, length-set}
+use lib.ListN.{length}
 use Rattle.forms.specs.Form.{encode}
 use Rattle.forms.specs.Exchange.{ebcdic_of}
 use Rattle.forms.specs.Forms.{utf_ebcdic}
 use Rattle.encoder.proofs.UtfEbcdic.{same-one, same-two, same-three, same-four, one_byte, two_bytes, three_bytes, four_bytes}
 use Rattle.laws.proofs.UnitEncodings.{put_one, put_two, put_three, put_four}
-use borrow.Author.Rules.{rules}
 use Rattle.encoder.proofs.utf_ebcdic.write.Goals as goal
 
 pub returns-then-value-lt160 : goal.returns-then-value-lt160

@@ -1,7 +1,5 @@
 use Prim.Native.Nat.{◌-◌, ◌≤◌}
-use native.Mathlib.Omega.{arith}
-use Rattle.laws.proofs.Values.{ReachIf, reach-none, reach_more, reach-end}
-use borrow.Author.Rules.{rules}
+use Rattle.laws.proofs.Values.{ReachIf}
 use Rattle.encoder.proofs.value_bounds.all_reach.Given as goal
 
 abbrev pub invariant-loop-k : goal.invariant-loop-k

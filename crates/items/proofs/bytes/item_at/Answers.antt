@@ -1,16 +1,11 @@
-use borrow.Author.Rules.{rules}
 use native.Mathlib.Omega.{arith}
-use Prim.Native.Nat.{ℕ, ◌-◌}
+use Prim.Native.Nat.{◌-◌}
 use mathlib.Core.Path.{◌≡◌, sym, ◌∙◌}
-use mathlib.Core.List.{List}
 use lib.ListN.{get_or}
 use Rattle.forms.specs.Layout.{row_at}
-use Rattle.laws.proofs.LayoutLaws.{InRow}
 use Rattle.tables.specs.ByteForms.{byte_form, layout_of, plain_of, role_number}
-use Rattle.tables.specs.declared.ByteForm.{ByteForm}
-use Rattle.tables.proofs.ByteLayouts.{fits}
 use Rattle.tables.proofs.Agreement.{byte_role}
-use Rattle.items.proofs.ByteItems.{trailing-alone, invalid-alone, in_row, lead-room, count_most, missing, too_long, no_character_lem, whole-character}
+use Rattle.items.proofs.ByteItems.{count_most, missing, too_long, no_character_lem, whole-character}
 use Rattle.items.proofs.bytes.item_at.Goals as goal
 
 pub overflow_add-span : goal.overflow_add-span
