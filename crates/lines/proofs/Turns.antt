@@ -1,13 +1,12 @@
 -- The loop that lists a text: what it keeps, how a turn changes it, and what it comes to.
-use Prim.Native.Nat.{ℕ, zero, suc, ◌+◌, ◌*◌, ◌-◌, ◌≤◌, ◌<◌}
-use mathlib.Core.Path.{◌≡◌, refl, sym, ap, ◌∙◌}
+use Prim.Native.Nat.{ℕ, ◌+◌, ◌*◌, ◌≤◌, ◌<◌}
+use mathlib.Core.Path.{◌≡◌, refl, ap, ◌∙◌}
 use mathlib.Core.List.{List, [], ◌∷◌, ◌++◌, append_assoc, append-nil}
 use native.Mathlib.Omega.{arith}
-use native.Mathlib.Nat.{zero-add, add_assoc}
 use lib.ListN.{length, drop, get_or}
 use Rattle.types.specs.declared.Item.{Item}
 use Rattle.types.specs.declared.Item.TheVariants.{Character, Mark}
-use Rattle.forms.specs.Form.{Form, size, span_of, item_of, items}
+use Rattle.forms.specs.Form.{size, span_of, items}
 use Rattle.forms.specs.Forms.{fss_utf}
 use Rattle.forms.specs.Lossy.{mark_count, marks}
 use Rattle.forms.specs.Buffer.{with_units, Holds}
@@ -16,7 +15,7 @@ use Rattle.laws.proofs.Items.{items_onward, sequence_at, items-end, items_step, 
 use Rattle.laws.proofs.FourForms.{fss_utf_laws}
 use Rattle.items.specs.ItemAt.{item_at}
 use Rattle.lines.specs.Listing.{header, line, lines, total, listing_of}
-use Rattle.laws.proofs.Buffers.{holds_first, holds_more}
+use Rattle.laws.proofs.Buffers.{holds_first, holds_more, length_with}
 
 -- since the loop began at (written₀, out₀) the lines `added` were put in; they and those of the items from `at` on are all the lines
 pub record Listed (s : List ℕ) (written₀ : ℕ) (out₀ out : List ℕ) (written at count marked : ℕ) : Type 0 where
@@ -46,6 +45,14 @@ listed_begin s written₀ out₀ =
       cells = refl;
     }
 
+-- the buffer when the header was put in
+pub header_put :
+    (d out₀ text : List ℕ) (written₀ : ℕ) → text ≡ header → written₀ ≡ 0 + length text → out₀ ≡ with_units d 0 text → 18 ≤ length d
+    → Holds d header written₀ out₀ × (length out₀ ≡ length d)
+header_put d out₀ text written₀ t q w h =
+    let e : out₀ ≡ with_units d 0 header = w ∙ ap (with_units d 0) t in
+    (holds_first d header out₀ written₀ (q ∙ ap (λ (x : List ℕ). 0 + length x) t) e, length_with d header out₀ 0 e (omega arith))
+
 pub mark-most : (i : Item) → mark_count i ≤ 1
 mark-most (Character v p) = omega arith
 mark-most (Mark f p) = omega arith
@@ -59,6 +66,9 @@ module _ (s : List ℕ) (p : ℕ) (h : p < length s) (i : Item) (e : i ≡ item_
 
   pub item-short : (span_of i).length ≤ 6
   item-short = omega (arith, item-length, size-longest fss_utf fss_utf_laws (omega arith) (get_or s p 0) (drop (p + 1) s))
+
+  pub item-within : p + (span_of i).length ≤ length s
+  item-within = omega (arith, item-length, within-at fss_utf s p h)
 
   -- the items from here on are this one and those behind it
   onward : items_onward fss_utf s p ≡ i ∷ items_onward fss_utf s (p + (span_of i).length)

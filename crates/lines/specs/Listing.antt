@@ -1,8 +1,7 @@
 -- What the listing program prints: document 01, the end of "Points for acceptance trial".
-use Rattle.std.specs.Prelude.{ℕ, zero, suc, ◌+◌, List, [], ◌∷◌, ◌++◌, length, take}
+use Rattle.std.specs.Prelude.{ℕ, List, [], ◌∷◌, ◌++◌, length, take}
 use Rattle.types.specs.declared.Item.{Item}
 use Rattle.types.specs.declared.Item.TheVariants.{Character, Mark}
-use Rattle.types.specs.declared.Span.{Span}
 use Rattle.forms.specs.Fault.{number_of}
 use Rattle.forms.specs.Form.{span_of, items}
 use Rattle.forms.specs.Forms.{fss_utf}

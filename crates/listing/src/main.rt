@@ -2,27 +2,36 @@
 // cannot, it says so on standard error; where it cannot read, it prints no listing, not even of an empty text.
 #![tactic(auto)]
 
-use libc::{STDERR_FILENO, STDIN_FILENO, STDOUT_FILENO};
+ghost use Rattle.std.specs.Prelude.{◌≡◌, ◌≤◌, IfOk, IfSome, take};
 
-fn main() {
-    let mut text = io::buffer();
+use std::io;
+use std::io::{Eprint, Print, Read};
+
+fn main(rt: HostRuntime) {
+    let mut text = [0u8; 4096];
+    let Ok(n) = read_text(&mut rt.stdin(), &mut text) else {
+        let _ = rt.eprint("listing: cannot read standard input\n");
+        return;
+    };
+    let mut out = [0u8; 73769];
+    let length = lines::listing(&text[..n], &mut out);
+    if rt.write_all(&out[..length]).is_err() {
+        let _ = rt.eprint("listing: cannot write standard output\n");
+    }
+}
+
+// Reads until the buffer is full or the input has ended, and answers how many bytes there are: the first 4,096 of the input.
+fn read_text<R: Read>(input: &mut R, text: &mut [u8; 4096]) -> io::Result<usize>
+    ensures fits { IfOk result (λ n. n ≤ 4096) }
+    ensures first { IfOk result (λ n. IfSome (R.remaining input.old) (λ bytes. take n text.new ≡ take 4096 bytes)) }
+{
     let mut n: usize = 0;
     while n < 4096 {
-        let rest = &mut text[n..];
-        let got = libc::read(STDIN_FILENO, rest);
-        if got < 0 {
-            io::write_all(STDERR_FILENO, b"listing: cannot read standard input\n");
-            return;
-        }
-        let more = io::count(got, rest);
+        let more = input.read(&mut text[n..])?;
         if more == 0 {
-            break;
+            return Ok(n);
         }
         n += more;
     }
-    let mut out = [0u8; 73769];
-    let length = lines::listing(&text[..n], &mut out);
-    if !io::write_all(STDOUT_FILENO, &out[..length]) {
-        io::write_all(STDERR_FILENO, b"listing: cannot write standard output\n");
-    }
+    Ok(n)
 }
