@@ -9,14 +9,14 @@ archive := target/staticlib/libjiskromet.a
 program := target/bin/listing
 
 # What both are made of; a folder's own time tells that a file of it is gone.
-sources := crates.txt $(shell find crates)
+sources := crates.txt $(shell find crates -mindepth 2 \( -name out -o -name must-fail \) -prune -o -print)
 
-# Has rt make the target where a source is newer, and shows what it prints only if it fails.
-define prove
+# Has rt make FILE in the crate's folder out/ by a command, where a source is newer, and shows what rt prints only if it fails.
+define prove # CRATE, COMMAND, FILE, MODE
 	@tests/needs rt
 	@echo 'Proving and building $@ (some minutes where nothing is proved yet)'
-	@mkdir -p target && $(1) > target/make.log 2>&1 || { cat target/make.log; exit 1; }
-	@touch $@
+	@mkdir -p $(@D) && (cd crates/$(1) && $(2)) > target/make.log 2>&1 < /dev/null || { cat target/make.log; exit 1; }
+	@install $(4) crates/$(1)/out/$(3) $@
 endef
 
 # Proves and builds the listing program, and lists a text with damage in it.
@@ -24,23 +24,23 @@ listing: $(program)
 	@$(program) < examples/damaged-alarm.txt
 
 $(program): $(sources)
-	$(call prove,rt check listing)
+	$(call prove,listing,rt run,listing,-m 755)
 
-# Proves every crate from nothing, tries every must-fail edit, and compares the library with the second program.
+# Proves every crate, tries every must-fail edit, and compares the library with the second program.
 test:
 	@tests/run
 
 # Proves what changed since the last check.
 check:
 	@tests/needs rt
-	@rt check
+	@rt all check
 
-# Builds the archive, for C and Rust to link.
+# Builds the archive, for C and Rust to link: the crate `jiskromet_c`.
 library: $(archive)
 	@echo $(archive)
 
 $(archive): $(sources)
-	$(call prove,rt staticlib jiskromet)
+	$(call prove,jiskromet_c,rt lib,libjiskromet_c.a,-m 644)
 
 # Times the library against other converters, and writes the figures to docs/SPEED.md and docs/speed.svg.
 bench: library
