@@ -1,5 +1,5 @@
 //! Links `libjiskromet.a` from the folder that `JISKROMET_LIB_DIR` names, or
-//! from where `rt staticlib jiskromet` puts it.
+//! from where `make library` puts it.
 
 use std::env;
 use std::path::PathBuf;

@@ -1,6 +1,6 @@
 //! Holds four texts to each other: the header `include/jiskromet.h`, this
 //! package's `src/library.rs`, the Rust wrapper's `rust/src/sys.rs` and the
-//! library's exports in `crates/jiskromet/src` with their structs in
+//! library's exports in `crates/jiskromet_c/src` with their structs in
 //! `crates/c_answers/src`. A linker compares names only; a parameter or field
 //! that differs would go unseen.
 
@@ -20,7 +20,7 @@ pub fn check(group: &mut Group, root: &Path) {
     let header = fs::read_to_string(&header).map_err(|why| format!("{}: {why}", header.display()));
     let wrapper =
         fs::read_to_string(&wrapper).map_err(|why| format!("{}: {why}", wrapper.display()));
-    let sources: Result<String, String> = ["crates/c_answers/src", "crates/jiskromet/src"]
+    let sources: Result<String, String> = ["crates/c_answers/src", "crates/jiskromet_c/src"]
         .iter()
         .map(|folder| read_sources(&root.join(folder)).map_err(|why| format!("{folder}: {why}")))
         .collect();
@@ -612,7 +612,7 @@ fn parse_rattle(text: &str) -> Declarations {
                     if !exported {
                         declared
                             .problems
-                            .push(format!("function {name} lacks #[no_mangle]"));
+                            .push(format!("function {name} lacks #[unsafe(no_mangle)]"));
                     }
                     declared.add_function(name, function);
                 }
@@ -623,9 +623,9 @@ fn parse_rattle(text: &str) -> Declarations {
         } else {
             if exported {
                 let word = cursor.peek();
-                declared
-                    .problems
-                    .push(format!("#[no_mangle] before {word}, not extern \"C\" fn"));
+                declared.problems.push(format!(
+                    "#[unsafe(no_mangle)] before {word}, not extern \"C\" fn"
+                ));
             }
             cursor.next();
         }
@@ -719,30 +719,30 @@ mod tests {
         pub struct JkConversion { pub fault: u32, pub offset: u64, pub units: u64 }
         #[repr(C)]
         pub struct JkDecoding { pub fault: u32, pub offset: u64, pub items: u64, pub marks: u64 }
-        #[no_mangle]
+        #[unsafe(no_mangle)]
         pub extern "C" fn jk_fss_utf_item_at(text: &[u8], offset: usize) -> JkItem
             ensures { result == told(read(text@, offset)) }
         {
             let c = '{';
             item(text, offset)
         }
-        #[no_mangle]
+        #[unsafe(no_mangle)]
         pub extern "C" fn jk_utf16_to_ucs4(src: &[u16], dst: &mut [u32]) -> JkConversion {
             convert(src, dst)
         }
-        #[no_mangle]
+        #[unsafe(no_mangle)]
         pub extern "C" fn jk_utf16_to_ucs4_length(src: &[u16]) -> JkConversion
             ensures { result == told(measured(src@)) }
         {
             measure(src)
         }
-        #[no_mangle]
+        #[unsafe(no_mangle)]
         pub extern "C" fn jk_fss_utf_to_utf_ebcdic(src: &[u8], dst: &mut [u8]) -> JkConversion
             ensures { result == told(converted(src@, old(dst)@)) && dst@ == cells(src@, old(dst)@) }
         {
             convert(src, dst)
         }
-        #[no_mangle]
+        #[unsafe(no_mangle)]
         pub extern "C" fn jk_utf16_decode_lossy(
             text: &[u16], values: &mut [u32], starts: &mut [u32]
         ) -> JkDecoding
@@ -750,7 +750,7 @@ mod tests {
         {
             decode(text, values, starts)
         }
-        #[no_mangle]
+        #[unsafe(no_mangle)]
         pub extern "C" fn jk_utf16_item_covering(text: &[u16], offset: usize) -> JkItem {
             find(text, offset)
         }
@@ -900,11 +900,11 @@ mod tests {
             rattle("offset: usize) -> JkItem", "offset: u64) -> JkItem"),
             rattle("pub kind: u32", "pub kind: u8"),
             rattle("pub extern \"C\" fn jk_utf16", "pub fn jk_utf16"),
-            rattle("#[no_mangle]", ""),
+            rattle("#[unsafe(no_mangle)]", ""),
             rattle("#[repr(C)]", ""),
             rattle(
-                "#[no_mangle]",
-                "#[no_mangle] pub extern \"C\" fn jk_more(text: &[u8]) -> JkItem { } #[no_mangle]",
+                "#[unsafe(no_mangle)]",
+                "#[unsafe(no_mangle)] pub extern \"C\" fn jk_more(text: &[u8]) -> JkItem { } #[unsafe(no_mangle)]",
             ),
         ];
         for (number, seen) in changes.iter().enumerate() {
@@ -919,16 +919,19 @@ mod tests {
         let inner = folder.join("inner");
         fs::create_dir_all(&inner).expect("a folder for the test");
         // The structs in one file, each function in one of its own.
-        let mut parts = RATTLE.split("#[no_mangle]");
+        let mut parts = RATTLE.split("#[unsafe(no_mangle)]");
         let structs = parts.next().expect("a first part");
         fs::write(folder.join("structs.rt"), structs).expect("a file for the test");
         for (number, part) in parts.enumerate() {
             let place = if number % 2 == 0 { &folder } else { &inner };
-            let text = format!("#[no_mangle]{part}");
+            let text = format!("#[unsafe(no_mangle)]{part}");
             fs::write(place.join(format!("part{number}.rt")), text).expect("a file for the test");
         }
-        fs::write(folder.join("notes.txt"), "#[no_mangle] pub fn other() {}")
-            .expect("a file for the test");
+        fs::write(
+            folder.join("notes.txt"),
+            "#[unsafe(no_mangle)] pub fn other() {}",
+        )
+        .expect("a file for the test");
         let sources = read_sources(&folder);
         fs::remove_dir_all(&folder).expect("the test's folder");
         let sources = sources.expect("the sources");
