@@ -1,4 +1,4 @@
--- Demand 3 of the tender, in the words of document 01: well_formed characters, any units, well_formed characters.
+-- Demand 3 of the tender, in the words of document 01: well-formed characters, any units, well-formed characters.
 use Rattle.std.specs.Prelude.{ℕ, ◌+◌, ◌≤◌, ◌<◌, ◌≡◌, ◌≢◌, ◌↔◌, List, [], ◌∷◌, ◌++◌, map, length, get_or, take, drop}
 use Rattle.types.specs.declared.Decoding.{Decoding}
 use Rattle.types.specs.declared.Decoding.TheVariants.{Decoded}

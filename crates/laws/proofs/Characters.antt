@@ -1,4 +1,4 @@
--- Texts of well_formed characters: how they read, and that an accepted text is one.
+-- Texts of well-formed characters: how they read, and that an accepted text is one.
 use Prim.Native.Nat.{ℕ, zero, suc, ◌+◌, ◌≤◌}
 use mathlib.Core.Path.{◌≡◌, refl, sym, ap, ◌∙◌, subst}
 use mathlib.Core.Logic.{◌≢◌}
@@ -75,7 +75,7 @@ module _ (F : Form) (laws : Laws F) where
   pub encode-longest : (v : ℕ) → length (encode F v) ≤ F.longest
   encode-longest v = longest_of v (encode F v) refl
 
-  -- well_formed characters at the front are read as themselves
+  -- well-formed characters at the front are read as themselves
   read_one :
       (p v : ℕ) (e r : List ℕ) → encode F v ≡ e → e ≢ []
       → items_from F p (sequences F (e ++ r)) ≡ Character v (span p (length e)) ∷ items_from F (p + length e) (sequences F r)

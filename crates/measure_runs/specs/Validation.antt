@@ -41,7 +41,7 @@ abbrev pub bit : Bool → ℕ
 bit true = 1
 bit false = 0
 
--- a byte reaches a weight; FF, which is in no well_formed text, is for none
+-- a byte reaches a weight; FF, which is in no well-formed text, is for none
 abbrev pub reached : ℕ → ℕ → Bool
 reached t b = ltb t 0xFF && leb t b
 

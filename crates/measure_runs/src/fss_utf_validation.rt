@@ -55,7 +55,7 @@ pub fn last_lead(src: &[u8], at: usize, count: usize) -> usize
 }
 
 // From which byte on a lead adds a second, third, fourth and fifth unit; and the lead whose second byte adds one from A0 on. FF, which
-// stands in no well_formed text, is for none.
+// stands in no well-formed text, is for none.
 #[derive(Clone, Copy)]
 pub struct Weights {
     pub two: u8,

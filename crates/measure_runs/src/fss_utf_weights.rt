@@ -1,4 +1,4 @@
-// The code units that the bytes of well_formed FSS-UTF add in a target.
+// The code units that the bytes of well-formed FSS-UTF add in a target.
 ghost use Rattle.std.specs.Prelude.{◌≡◌, ◌+◌, ◌≤◌, length};
 ghost use Rattle.laws.proofs.Runs.{sum};
 ghost use Rattle.measure_runs.specs.Validation.{bit, added, added_at, lead_at, reached_at, split_at};
