@@ -2,8 +2,7 @@
 -- "Invented counts of items, marks or units are shut out because they equal the lengths of the defined lists": see `Returned`, `Gives` and
 -- `Measured` of condition 2.
 use Rattle.std.specs.Prelude.{ℕ, ◌≤◌, ◌≡◌, ◌≢◌, List, [], ◌∷◌, length, take}
-use Rattle.forms.specs.Form.{Form, items, encode, encode_all, AllEncodable}
-use Rattle.forms.specs.Lossy.{marks}
+use Rattle.forms.specs.Form.{Form, encode, encode_all, AllEncodable}
 use Rattle.reader.specs.Step.{cursor, step_at}
 use Rattle.c_answers.specs.declared.JkConversion.{JkConversion}
 use Rattle.c_answers.specs.declared.JkDecoding.{JkDecoding}

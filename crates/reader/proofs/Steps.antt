@@ -1,5 +1,5 @@
 -- What a step promises, by the place of its cursor: one law for each way through the code, for any form.
-use Prim.Native.Nat.{ℕ, suc, ◌+◌, ◌≤◌, ◌<◌}
+use Prim.Native.Nat.{ℕ, ◌+◌, ◌≤◌, ◌<◌}
 use mathlib.Core.Path.{◌≡◌, refl, sym, ap, ◌∙◌}
 use mathlib.Core.Bool.{Bool, true, false, cond}
 use mathlib.Core.List.{List, [], ◌∷◌}
@@ -15,10 +15,10 @@ use Rattle.types.specs.declared.Item.{Item}
 use Rattle.types.specs.declared.Span.{Span}
 use Rattle.forms.specs.Fault.{limit, refusal}
 use Rattle.forms.specs.Answer.{numbers, item_values}
-use Rattle.forms.specs.Form.{Form, size, first_of, span_of, item_of}
+use Rattle.forms.specs.Form.{Form, size, first_of, span_of}
 use Rattle.laws.proofs.Spans.{item-span, size-within}
 use Rattle.items.specs.ItemAt.{item_at}
-use Rattle.reader.specs.Step.{cursor, behind, step_over, step_at, step_numbers, numbers_over, ReadsItem}
+use Rattle.reader.specs.Step.{behind, step_over, step_at, step_numbers, numbers_over, ReadsItem}
 use Rattle.reader.specs.declared.Cursor.{Cursor}
 use Rattle.reader.specs.declared.Step.{Step}
 use Rattle.reader.specs.declared.Step.TheVariants.{Next, End, Refused}

@@ -1,16 +1,15 @@
 -- What follows of the readers: each step moves on, reading at a place is reading from there, and the steps from 0 on give the items.
 use Prim.Native.Nat.{ℕ, zero, suc, ◌+◌, ◌-◌, ◌≤◌, ◌<◌}
-use mathlib.Core.Path.{◌≡◌, refl, sym, ap, ◌∙◌, subst}
+use mathlib.Core.Path.{◌≡◌, refl, sym, ap, ◌∙◌}
 use mathlib.Core.Bool.{Bool, true, false, cond}
 use mathlib.Core.List.{List, [], ◌∷◌, map}
 use native.Mathlib.Omega.{arith}
-use native.Mathlib.Nat.{add-zero, add_assoc}
+use native.Mathlib.Nat.{add-zero}
 use lib.Dec.{ltb}
-use lib.ListN.{length, get_or, drop, length-drop}
+use lib.ListN.{length, drop, length-drop}
 use lib.Seq.{drop-drop}
 use borrow.Author.Tests.{le-ltb, ltb-false}
 use Rattle.types.specs.declared.Item.{Item}
-use Rattle.types.specs.declared.Item.TheVariants.{Character, Mark}
 use Rattle.types.specs.declared.Refusal.{Refusal}
 use Rattle.types.specs.declared.Span.{Span}
 use Rattle.forms.specs.Fault.{limit}
@@ -24,7 +23,7 @@ use Rattle.reader.specs.Step.{cursor, behind, step_over, step_at}
 use Rattle.reader.specs.Walk.{Moves, or_end, steps_from, moved_item, moved_step}
 use Rattle.reader.specs.declared.Cursor.{Cursor}
 use Rattle.reader.specs.declared.Step.{Step}
-use Rattle.reader.specs.declared.Step.TheVariants.{Next, End, Refused}
+use Rattle.reader.specs.declared.Step.TheVariants.{Next, Refused}
 
 -- within the limit and the text a step is that of the units from its place on
 pub step_over_lem : (F : Form) (s : List ℕ) (c : Cursor) → length s ≤ limit → c.offset ≤ length s → step_at F s c ≡ step_over F c (drop c.offset s)

@@ -1,8 +1,5 @@
-use Prim.Native.Nat.{◌-◌}
 use mathlib.Core.Path.{sym}
-use borrow.Author.Rules.{rules}
-use Rattle.lossy_runs.specs.ReadOn.{offsets_from}
-use Rattle.lossy_runs.proofs.ReadingOn.{Copied, copied_none, copied_more, copied_all, offsets_at, offsets_length}
+use Rattle.lossy_runs.proofs.ReadingOn.{copied_more, offsets_at, offsets_length}
 use Rattle.lossy_runs.proofs.put_offsets.Goals as goal
 
 pub loop-j-preserved : goal.loop-j-preserved

@@ -1,8 +1,7 @@
 use native.Mathlib.Omega.{arith}
-use borrow.Author.Rules.{rules}
 use Rattle.tables.specs.ByteForms.{byte_form}
 use Rattle.tables.proofs.ByteLayouts.{byte_laws}
-use Rattle.laws.proofs.Finder.{Near, too_long, out_of_range}
+use Rattle.laws.proofs.Finder.{Near, out_of_range}
 use Rattle.finder.proofs.Seeking.{part_near}
 use Rattle.finder.proofs.bytes.item_covering.Goals as goal
 

@@ -1,9 +1,8 @@
 use native.Mathlib.Omega.{arith}
-use borrow.Author.Rules.{rules}
 use native.Mathlib.Nat.{sub-zero}
 use Rattle.forms.specs.Forms.{ucs4}
 use Rattle.laws.proofs.FourForms.{ucs4_laws}
-use Rattle.laws.proofs.Finder.{near, too_long, out_of_range}
+use Rattle.laws.proofs.Finder.{near, out_of_range}
 use Rattle.laws.proofs.StartsOfUnits.{ucs4-none-back}
 use Rattle.finder.proofs.ucs4.item_covering.Goals as goal
 

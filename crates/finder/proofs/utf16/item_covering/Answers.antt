@@ -1,8 +1,7 @@
 use native.Mathlib.Omega.{arith}
-use borrow.Author.Rules.{rules}
 use Rattle.forms.specs.Forms.{utf16}
 use Rattle.laws.proofs.FourForms.{utf16_laws}
-use Rattle.laws.proofs.Finder.{Near, near, too_long, out_of_range}
+use Rattle.laws.proofs.Finder.{Near, near, out_of_range}
 use Rattle.finder.proofs.utf16.item_covering.Goals as goal
 
 pub returns-then-text-offset : goal.returns-then-text-offset

@@ -1,13 +1,7 @@
 use Prim.Native.Nat.{◌-◌}
-use native.Mathlib.Omega.{arith}
-use borrow.Author.Rules.{rules}
-use borrow.Author.Tests.{not-true, not-false}
 use lib.ListN.{length}
 use Rattle.forms.specs.Forms.{ucs4}
-use Rattle.laws.proofs.FourForms.{ucs4_laws}
-use Rattle.laws.proofs.Marks.{mark-most}
-use Rattle.laws.proofs.ReadItems.{ItemAt, item-at, item-onward}
-use Rattle.lossy_runs.proofs.Filling.{Filling, filling_over, filling_short, filling_begin, filling_end, filling_next, filling_more, filling_room, filling_run, filling_none}
+use Rattle.lossy_runs.proofs.Filling.{Filling}
 use Rattle.lossy.proofs.from_ucs4.decode_lossy.Given as goal
 
 abbrev pub invariant-loop-at : goal.invariant-loop-at

@@ -1,10 +1,8 @@
-use Prim.Native.Nat.{◌-◌, ◌<◌}
 use mathlib.Core.Path.{refl}
 use native.Mathlib.Omega.{arith}
-use borrow.Author.Rules.{rules}
 use Rattle.forms.specs.Forms.{fss_utf}
 use Rattle.characters.proofs.Shorts.{or_left, or_right, one_byte}
-use Rattle.lossy_runs.proofs.ReadingOn.{Copied, copied_none, copied_more, copied_all, read_none, read_block, block_room, Singles, Loading, loading_none, loading_more, loading_all}
+use Rattle.lossy_runs.proofs.ReadingOn.{copied_none, copied_more, copied_all, read_none, read_block, block_room, Singles, loading_more, loading_all}
 use Rattle.lossy_runs.proofs.fss_utf.block_at.Goals as goal
 
 pub returns-then-text-at-ge128 : goal.returns-then-text-at-ge128

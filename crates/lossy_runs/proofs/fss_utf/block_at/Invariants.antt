@@ -1,10 +1,6 @@
 use Prim.Native.Nat.{◌-◌, ◌<◌}
-use mathlib.Core.Path.{refl}
-use native.Mathlib.Omega.{arith}
-use borrow.Author.Rules.{rules}
 use Rattle.forms.specs.Forms.{fss_utf}
-use Rattle.characters.proofs.Shorts.{or_left, or_right, one_byte}
-use Rattle.lossy_runs.proofs.ReadingOn.{Copied, copied_none, copied_more, copied_all, read_none, read_block, block_room, Singles, Loading, loading_none, loading_more, loading_all}
+use Rattle.lossy_runs.proofs.ReadingOn.{Copied, Loading}
 use Rattle.lossy_runs.proofs.fss_utf.block_at.Given as goal
 
 abbrev pub invariant-loop-j : goal.invariant-loop-j

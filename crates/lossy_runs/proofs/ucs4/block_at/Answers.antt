@@ -1,13 +1,11 @@
-use Prim.Native.Nat.{◌+◌, ◌-◌, ◌<◌}
+use Prim.Native.Nat.{◌+◌, ◌<◌}
 use mathlib.Core.Path.{refl}
 use native.Mathlib.Omega.{arith}
-use borrow.Author.Rules.{rules}
 use lib.ListN.{length, get_or}
 use Rattle.forms.specs.Forms.{ucs4}
 use Rattle.characters.proofs.Shorts.{or_left, or_right}
-use Rattle.lossy_runs.specs.Ucs4Units.{AllCarried}
-use Rattle.lossy_runs.proofs.Units.{CarriedIf, carried_none, carried-before, carried-last, carried-put, below_carried, ucs4-unit}
-use Rattle.lossy_runs.proofs.ReadingOn.{Copied, copied_none, copied_more, copied_all, read_none, read_block, block_room, Singles, Loading, loading_none, loading_more, loading_all}
+use Rattle.lossy_runs.proofs.Units.{carried-before, carried-last, carried-put, below_carried, ucs4-unit}
+use Rattle.lossy_runs.proofs.ReadingOn.{copied_more, copied_all, read_block, block_room, Singles, loading_more, loading_all}
 use Rattle.lossy_runs.proofs.ucs4.block_at.Goals as goal
 
 pub loop-j-preserved : goal.loop-j-preserved

@@ -1,12 +1,7 @@
 use Prim.Native.Nat.{◌-◌, ◌≤◌}
 use mathlib.Core.Path.{◌≡◌}
-use mathlib.Core.Bool.{false, ◌||◌}
-use native.Mathlib.Omega.{arith}
-use lib.Dec.{leb}
-use lib.ListN.{get_or}
-use Rattle.laws.proofs.Values.{neither_left, neither_right}
-use Rattle.lossy_runs.proofs.Units.{tested_carried, CarriedIf, carried_none, carried_more}
-use borrow.Author.Rules.{rules}
+use mathlib.Core.Bool.{false}
+use Rattle.lossy_runs.proofs.Units.{CarriedIf}
 use Rattle.lossy_runs.proofs.ucs4.has_mark.Given as goal
 
 abbrev pub invariant-loop-k : goal.invariant-loop-k

@@ -1,16 +1,12 @@
-use Prim.Native.Nat.{ℕ, ◌-◌}
+use Prim.Native.Nat.{ℕ}
 use mathlib.Core.Path.{refl}
 use native.Mathlib.Omega.{arith}
-use borrow.Author.Rules.{rules}
-use lib.ListN.{length, get_or}
-use Rattle.types.specs.declared.Item.TheVariants.{Character}
+use lib.ListN.{get_or}
 use Rattle.forms.specs.Form.{span}
 use Rattle.forms.specs.Forms.{ucs4}
 use Rattle.laws.proofs.Progress.{CharacterAt}
-use Rattle.laws.proofs.ReadItems.{ItemAt, item-onward}
-use Rattle.lossy_runs.specs.ReadOn.{ReadOn}
 use Rattle.lossy_runs.proofs.Units.{ucs4-unit}
-use Rattle.lossy_runs.proofs.ReadingOn.{character-item, read_none, read_next, read-character}
+use Rattle.lossy_runs.proofs.ReadingOn.{read-character}
 use Rattle.lossy_runs.proofs.ucs4.some_at.Goals as goal
 
 pub loop-to-preserved : goal.loop-to-preserved

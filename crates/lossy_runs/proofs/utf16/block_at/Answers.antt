@@ -1,13 +1,12 @@
-use Prim.Native.Nat.{◌+◌, ◌-◌}
-use mathlib.Core.Path.{◌≡◌, refl}
-use mathlib.Core.Bool.{false, ◌&&◌}
+use Prim.Native.Nat.{◌+◌}
+use mathlib.Core.Path.{refl}
+use mathlib.Core.Bool.{◌&&◌}
 use native.Mathlib.Omega.{arith}
-use borrow.Author.Rules.{rules}
 use lib.Dec.{leb, ltb}
 use Rattle.forms.specs.Forms.{utf16}
 use Rattle.laws.proofs.Values.{neither_left, neither_right}
 use Rattle.lossy_runs.proofs.Units.{lone_unit}
-use Rattle.lossy_runs.proofs.ReadingOn.{Copied, copied_none, copied_more, copied_all, read_none, read_block, block_room, Singles, Loading, loading_none, loading_more, loading_all}
+use Rattle.lossy_runs.proofs.ReadingOn.{copied_more, copied_all, read_block, block_room, Singles, loading_more, loading_all}
 use Rattle.lossy_runs.proofs.utf16.block_at.Goals as goal
 
 pub loop-j-preserved : goal.loop-j-preserved

@@ -1,14 +1,7 @@
-use Prim.Native.Nat.{◌-◌}
-use native.Mathlib.Omega.{arith}
-use borrow.Author.Rules.{rules}
-use lib.ListN.{length}
-use Rattle.types.specs.declared.Item.TheVariants.{Character}
 use Rattle.forms.specs.Form.{span}
 use Rattle.forms.specs.Forms.{utf16}
 use Rattle.laws.proofs.Progress.{CharacterAt}
-use Rattle.laws.proofs.ReadItems.{ItemAt, item-onward}
-use Rattle.lossy_runs.specs.ReadOn.{ReadOn}
-use Rattle.lossy_runs.proofs.ReadingOn.{character-item, read_none, read_next, read-character}
+use Rattle.lossy_runs.proofs.ReadingOn.{read-character}
 use Rattle.lossy_runs.proofs.utf16.some_at.Goals as goal
 
 pub loop-to-preserved : goal.loop-to-preserved

@@ -1,16 +1,11 @@
-use Prim.Native.Nat.{◌+◌, ◌-◌}
-use mathlib.Core.Path.{ap, ◌∙◌}
+use Prim.Native.Nat.{◌+◌}
 use native.Mathlib.Omega.{arith}
-use borrow.Author.Rules.{rules}
-use lib.ListN.{length}
 use Rattle.tables.specs.ByteForms.{byte_form}
 use Rattle.tables.proofs.ByteLayouts.{byte_laws}
-use Rattle.forms.specs.Forms.{turned_away}
-use Rattle.forms.specs.Conversion.{refusal_at}
-use Rattle.laws.proofs.Progress.{CharacterAt, character-at, mark-at, character-value, character-onward}
+use Rattle.laws.proofs.Progress.{CharacterAt, character-at, character-value, character-onward}
 use Rattle.encoder.specs.Target.{target_form}
 use Rattle.encoder.proofs.Targets.{encode_seven, refused_by_lem}
-use Rattle.laws.proofs.Measuring.{Measuring, measuring_begin, measuring-over, measuring-end, measuring-mark, measuring-unheld, measuring_more, measuring_run}
+use Rattle.laws.proofs.Measuring.{Measuring, measuring-unheld, measuring_more, measuring_run}
 use Rattle.measure.proofs.from_bytes.measure.Goals as goal
 
 pub loop-at-preserved-then-taken-ne0 : goal.loop-at-preserved-then-taken-ne0

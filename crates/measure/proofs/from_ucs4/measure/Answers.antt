@@ -1,15 +1,10 @@
-use Prim.Native.Nat.{◌+◌, ◌-◌}
-use mathlib.Core.Path.{ap, ◌∙◌}
+use Prim.Native.Nat.{◌+◌}
 use native.Mathlib.Omega.{arith}
-use borrow.Author.Rules.{rules}
-use lib.ListN.{length}
-use Rattle.forms.specs.Forms.{ucs4, turned_away}
-use Rattle.laws.proofs.FourForms.{ucs4_laws}
-use Rattle.forms.specs.Conversion.{refusal_at}
-use Rattle.laws.proofs.Progress.{CharacterAt, character-at, mark-at, character-value, character-onward}
+use Rattle.forms.specs.Forms.{ucs4}
+use Rattle.laws.proofs.Progress.{CharacterAt, character-at}
 use Rattle.encoder.specs.Target.{target_form}
-use Rattle.encoder.proofs.Targets.{encode_seven, refused_by_lem}
-use Rattle.laws.proofs.Measuring.{Measuring, measuring_begin, measuring-over, measuring-end, measuring-mark, measuring-unheld, measuring_more, measuring_run}
+use Rattle.encoder.proofs.Targets.{encode_seven}
+use Rattle.laws.proofs.Measuring.{Measuring, measuring_more, measuring_run}
 use Rattle.measure.proofs.from_ucs4.measure.Goals as goal
 
 pub loop-at-preserved-then-passed-ne0 : goal.loop-at-preserved-then-passed-ne0

@@ -1,5 +1,4 @@
 use Rattle.measure_runs.proofs.FssUtfAsciiCounting.{ascii_counted}
-use borrow.Author.Rules.{rules}
 use Rattle.measure_runs.proofs.fss_utf.count.Goals as goal
 
 pub returns-then-ascii-ne0 : goal.returns-then-ascii-ne0

@@ -1,9 +1,5 @@
 use Prim.Native.Nat.{◌+◌, ◌-◌, ◌≤◌}
-use mathlib.Core.Path.{refl, sym, ◌∙◌}
 use Rattle.measure_runs.specs.Validation.{Padded}
-use Rattle.measure_runs.proofs.Validating.{padded_more, padded_all}
-use borrow.Author.Rules.{rules}
-use native.Mathlib.Omega.{arith}
 use Rattle.measure_runs.proofs.fss_utf.put.Given as goal
 
 abbrev pub invariant-loop-j : goal.invariant-loop-j

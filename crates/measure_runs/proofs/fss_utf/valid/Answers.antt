@@ -1,5 +1,4 @@
 use Rattle.measure_runs.proofs.WellFormed.{whole-counted}
-use borrow.Author.Rules.{rules}
 use native.Mathlib.Omega.{arith}
 use Rattle.measure_runs.proofs.fss_utf.valid.Goals as goal
 

@@ -1,9 +1,6 @@
 use Prim.Native.Nat.{◌+◌, ◌-◌}
 use lib.ListN.{length}
 use Rattle.measure_runs.specs.Validation.{Blocks}
-use Rattle.measure_runs.proofs.Validating.{blocks_none, blocks_more, units-most}
-use borrow.Author.Rules.{rules}
-use native.Mathlib.Omega.{arith}
 use Rattle.measure_runs.proofs.fss_utf.valid_blocks.Given as goal
 
 abbrev pub invariant-loop-length : goal.invariant-loop-length

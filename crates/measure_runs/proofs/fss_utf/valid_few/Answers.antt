@@ -2,9 +2,7 @@ use Prim.Native.Nat.{◌-◌, ◌≤◌}
 use mathlib.Core.Path.{sym, ◌∙◌}
 use Rattle.measure_runs.specs.Validation.{Weighed}
 use Rattle.measure_runs.proofs.Validating.{padded_none}
-use Rattle.measure_runs.proofs.WellFormed.{none_weighed, padded_units}
-use borrow.Author.Rules.{rules}
-use native.Mathlib.Omega.{arith}
+use Rattle.measure_runs.proofs.WellFormed.{padded_units}
 use Rattle.measure_runs.proofs.fss_utf.valid_few.Goals as goal
 
 pub put-requires : goal.put-requires

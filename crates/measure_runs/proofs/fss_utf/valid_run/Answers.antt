@@ -2,7 +2,6 @@ use mathlib.Core.Path.{sym, ◌∙◌}
 use Prim.Native.Nat.{◌≤◌, ◌-◌}
 use Rattle.measure_runs.specs.Validation.{Whole}
 use Rattle.measure_runs.proofs.Validating.{whole-none, whole_cut}
-use borrow.Author.Rules.{rules}
 use native.Mathlib.Omega.{arith}
 use Rattle.measure_runs.proofs.fss_utf.valid_run.Goals as goal
 

@@ -1,7 +1,4 @@
-use Rattle.laws.proofs.Runs.{counted_none}
 use Rattle.measure_runs.proofs.TargetWeights.{utf16-strict_weighs, ucs4-strict_weighs, utf_ebcdic-strict_weighs}
-use borrow.Author.Rules.{rules}
-use native.Mathlib.Omega.{arith}
 use Rattle.measure_runs.proofs.fss_utf.weighed.Goals as goal
 
 pub returns-in-UtfEbcdic : goal.returns-in-UtfEbcdic

@@ -1,5 +1,4 @@
 use Rattle.laws.proofs.Blocks.{at-most_join, at-most_looser}
-use borrow.Author.Rules.{rules}
 use native.Mathlib.Omega.{arith}
 use Rattle.measure_runs.proofs.fss_utf_ascii.ascii_length.Goals as goal
 

@@ -1,8 +1,5 @@
 use Prim.Native.Nat.{◌-◌, ◌≤◌}
-use mathlib.Core.Path.{refl}
-use Rattle.laws.proofs.Blocks.{AtMost, at-most-none, at-most-or, at-most-all}
-use borrow.Author.Rules.{rules}
-use native.Mathlib.Omega.{arith}
+use Rattle.laws.proofs.Blocks.{AtMost}
 use Rattle.measure_runs.proofs.fss_utf_ascii.or_few.Given as goal
 
 abbrev pub invariant-loop-i : goal.invariant-loop-i

@@ -1,7 +1,4 @@
-use Prim.Native.Nat.{◌+◌, ◌-◌, ◌≤◌}
-use lib.ListN.{length}
-use Rattle.laws.proofs.Blocks.{AtMost, at-most-none, at-most_join, at-most_looser}
-use borrow.Author.Rules.{rules}
+use Rattle.laws.proofs.Blocks.{at-most_join, at-most_looser}
 use native.Mathlib.Omega.{arith}
 use Rattle.measure_runs.proofs.fss_utf_ascii.whole_blocks.Goals as goal
 

@@ -1,8 +1,6 @@
 use Prim.Native.Nat.{◌+◌, ◌-◌, ◌≤◌}
 use lib.ListN.{length}
-use Rattle.laws.proofs.Blocks.{AtMost, at-most-none, at-most_join, at-most_looser}
-use borrow.Author.Rules.{rules}
-use native.Mathlib.Omega.{arith}
+use Rattle.laws.proofs.Blocks.{AtMost}
 use Rattle.measure_runs.proofs.fss_utf_ascii.whole_blocks.Given as goal
 
 abbrev pub invariant-loop-length : goal.invariant-loop-length

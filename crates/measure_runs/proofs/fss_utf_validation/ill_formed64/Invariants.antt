@@ -1,7 +1,5 @@
 use Prim.Native.Nat.{◌-◌, ◌≤◌}
-use Rattle.measure_runs.proofs.Validating.{Joined, joined-none, joined_more, joined_end}
-use borrow.Author.Rules.{rules}
-use native.Mathlib.Omega.{arith}
+use Rattle.measure_runs.proofs.Validating.{Joined}
 use Rattle.measure_runs.proofs.fss_utf_validation.ill_formed64.Given as goal
 
 abbrev pub invariant-loop-i : goal.invariant-loop-i

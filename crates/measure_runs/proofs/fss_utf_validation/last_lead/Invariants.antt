@@ -1,7 +1,4 @@
 use Prim.Native.Nat.{◌<◌}
-use mathlib.Core.Path.{refl, sym, ◌∙◌}
-use borrow.Author.Rules.{rules}
-use native.Mathlib.Omega.{arith}
 use Rattle.measure_runs.proofs.fss_utf_validation.last_lead.Given as goal
 
 abbrev pub invariant-loop-last : goal.invariant-loop-last

@@ -1,5 +1,4 @@
 use Rattle.measure_runs.proofs.Validating.{added-parts}
-use borrow.Author.Rules.{rules}
 use native.Mathlib.Omega.{arith}
 use Rattle.measure_runs.proofs.fss_utf_weights.added64.Goals as goal
 

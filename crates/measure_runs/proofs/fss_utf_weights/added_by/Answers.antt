@@ -1,6 +1,4 @@
 use Rattle.measure_runs.specs.Validation.{added}
-use borrow.Author.Rules.{rules}
-use native.Mathlib.Omega.{arith}
 use Rattle.measure_runs.proofs.fss_utf_weights.added_by.Goals as goal
 
 pub returns : goal.returns

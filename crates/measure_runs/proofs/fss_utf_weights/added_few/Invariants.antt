@@ -1,10 +1,6 @@
-use Prim.Native.Nat.{◌+◌, ◌-◌, ◌≤◌}
-use mathlib.Core.Path.{◌∙◌}
-use Rattle.measure_runs.proofs.Validating.{Adding, adding_none, adding_more, adding_end, added-most}
+use Prim.Native.Nat.{◌-◌, ◌≤◌}
+use Rattle.measure_runs.proofs.Validating.{Adding}
 use Rattle.measure_runs.specs.Validation.{added_at}
-use lib.ListN.{get_or}
-use borrow.Author.Rules.{rules}
-use native.Mathlib.Omega.{arith}
 use Rattle.measure_runs.proofs.fss_utf_weights.added_few.Given as goal
 
 abbrev pub invariant-loop-i : goal.invariant-loop-i

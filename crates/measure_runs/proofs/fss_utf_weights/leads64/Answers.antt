@@ -1,7 +1,4 @@
-use Prim.Native.Nat.{◌-◌, ◌≤◌}
-use Rattle.measure_runs.proofs.Validating.{Adding, adding_none, adding_more, adding_end}
-use Rattle.measure_runs.specs.Validation.{lead_at}
-use borrow.Author.Rules.{rules}
+use Rattle.measure_runs.proofs.Validating.{adding_none, adding_more}
 use native.Mathlib.Omega.{arith}
 use Rattle.measure_runs.proofs.fss_utf_weights.leads64.Goals as goal
 

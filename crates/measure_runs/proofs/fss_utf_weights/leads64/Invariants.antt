@@ -1,8 +1,6 @@
 use Prim.Native.Nat.{◌-◌, ◌≤◌}
-use Rattle.measure_runs.proofs.Validating.{Adding, adding_none, adding_more, adding_end}
+use Rattle.measure_runs.proofs.Validating.{Adding}
 use Rattle.measure_runs.specs.Validation.{lead_at}
-use borrow.Author.Rules.{rules}
-use native.Mathlib.Omega.{arith}
 use Rattle.measure_runs.proofs.fss_utf_weights.leads64.Given as goal
 
 abbrev pub invariant-loop-i : goal.invariant-loop-i

@@ -1,10 +1,6 @@
-use Prim.Native.Nat.{◌+◌, ◌-◌, ◌≤◌}
-use mathlib.Core.Path.{sym, ap, ◌∙◌}
-use lib.ListN.{get_or}
-use Rattle.measure_runs.proofs.Validating.{Adding, adding_none, adding_more, adding_end, none-reached, reached_below}
-use Rattle.measure_runs.specs.Validation.{bit, reached_at}
-use borrow.Author.Rules.{rules}
-use native.Mathlib.Omega.{arith}
+use Prim.Native.Nat.{◌-◌, ◌≤◌}
+use Rattle.measure_runs.proofs.Validating.{Adding}
+use Rattle.measure_runs.specs.Validation.{reached_at}
 use Rattle.measure_runs.proofs.fss_utf_weights.reached64.Given as goal
 
 abbrev pub invariant-loop-i : goal.invariant-loop-i

@@ -1,9 +1,8 @@
-use Prim.Native.Nat.{◌+◌, ◌-◌, ◌≤◌}
+use Prim.Native.Nat.{◌+◌, ◌-◌}
 use mathlib.Core.Path.{sym, ap, ◌∙◌}
 use lib.ListN.{get_or}
-use Rattle.measure_runs.proofs.Validating.{Adding, adding_none, adding_more, adding_end, none_split, splits_below}
-use Rattle.measure_runs.specs.Validation.{bit, split_at}
-use borrow.Author.Rules.{rules}
+use Rattle.measure_runs.proofs.Validating.{adding_none, adding_more, none_split, splits_below}
+use Rattle.measure_runs.specs.Validation.{bit}
 use native.Mathlib.Omega.{arith}
 use Rattle.measure_runs.proofs.fss_utf_weights.split64.Goals as goal
 

@@ -1,7 +1,5 @@
 use native.Mathlib.Omega.{arith}
-use mathlib.Core.Path.{refl}
-use Rattle.measure_runs.proofs.Ucs4Counting.{rows, bytes_one, bytes_few, bytes_all}
-use borrow.Author.Rules.{rules}
+use Rattle.measure_runs.proofs.Ucs4Counting.{bytes_one, bytes_few, bytes_all}
 use Rattle.measure_runs.proofs.ucs4.byte_block.Goals as goal
 
 pub returns-then-most-two : goal.returns-then-most-two

@@ -1,9 +1,6 @@
 use Prim.Native.Nat.{◌-◌, ◌≤◌}
-use native.Mathlib.Omega.{arith}
-use Rattle.measure_runs.proofs.Ucs4Counting.{none-excluded}
 use Rattle.measure_runs.specs.Ucs4Bounds.{is_excluded}
-use Rattle.measure_runs.proofs.Utf16Tests.{NoneUnless, none_begin, none_more, none_end}
-use borrow.Author.Rules.{rules}
+use Rattle.measure_runs.proofs.Utf16Tests.{NoneUnless}
 use Rattle.measure_runs.proofs.ucs4.excluded.Given as goal
 
 abbrev pub invariant-loop-k : goal.invariant-loop-k

@@ -1,11 +1,10 @@
-use Prim.Native.Nat.{ℕ, ◌+◌, ◌-◌, ◌≤◌}
+use Prim.Native.Nat.{◌+◌, ◌≤◌}
 use mathlib.Core.Path.{◌≡◌, refl, sym}
 use native.Mathlib.Omega.{arith}
 use lib.ListN.{get_or}
-use Rattle.laws.proofs.Runs.{sum as total, sum_zero, sum_more, sum_most}
+use Rattle.laws.proofs.Runs.{sum_zero, sum_more, sum_most}
 use Rattle.measure_runs.specs.Ucs4Bounds.{reached_at}
 use Rattle.measure_runs.proofs.Ucs4Counting.{reached-most}
-use borrow.Author.Rules.{rules}
 use Rattle.measure_runs.proofs.ucs4.reached.Goals as goal
 
 pub loop-k-init : goal.loop-k-init

@@ -1,11 +1,7 @@
-use Prim.Native.Nat.{ℕ, ◌+◌, ◌-◌, ◌≤◌}
-use mathlib.Core.Path.{◌≡◌, refl, sym}
-use native.Mathlib.Omega.{arith}
-use lib.ListN.{get_or}
-use Rattle.laws.proofs.Runs.{sum as total, sum_zero, sum_more, sum_most}
+use Prim.Native.Nat.{◌-◌, ◌≤◌}
+use mathlib.Core.Path.{◌≡◌}
+use Rattle.laws.proofs.Runs.{sum as total}
 use Rattle.measure_runs.specs.Ucs4Bounds.{reached_at}
-use Rattle.measure_runs.proofs.Ucs4Counting.{reached-most}
-use borrow.Author.Rules.{rules}
 use Rattle.measure_runs.proofs.ucs4.reached.Given as goal
 
 abbrev pub invariant-loop-k : goal.invariant-loop-k

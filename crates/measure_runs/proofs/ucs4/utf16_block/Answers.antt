@@ -1,11 +1,10 @@
-use Prim.Native.Nat.{◌-◌, ◌≤◌}
-use mathlib.Core.Path.{◌≡◌, refl, sym}
+use Prim.Native.Nat.{◌≤◌}
+use mathlib.Core.Path.{◌≡◌, sym}
 use native.Mathlib.Omega.{arith}
-use Rattle.laws.proofs.Runs.{sum as total, sum_zero, sum_more, sum_most}
-use Rattle.measure_runs.specs.Ucs4Bounds.{is_excluded, units_at}
+use Rattle.laws.proofs.Runs.{sum_zero, sum_more, sum_most}
+use Rattle.measure_runs.specs.Ucs4Bounds.{units_at}
 use Rattle.measure_runs.proofs.Ucs4Counting.{units-most, counted-utf16}
-use Rattle.measure_runs.proofs.Utf16Tests.{NoneUnless, none_begin, none_more, none_end}
-use borrow.Author.Rules.{rules}
+use Rattle.measure_runs.proofs.Utf16Tests.{none_begin, none_more, none_end}
 use Rattle.measure_runs.proofs.ucs4.utf16_block.Goals as goal
 
 pub loop-k-init : goal.loop-k-init

@@ -1,11 +1,8 @@
 use Prim.Native.Nat.{◌-◌, ◌≤◌}
-use mathlib.Core.Path.{◌≡◌, refl, sym}
-use native.Mathlib.Omega.{arith}
-use Rattle.laws.proofs.Runs.{sum as total, sum_zero, sum_more, sum_most}
+use mathlib.Core.Path.{◌≡◌}
+use Rattle.laws.proofs.Runs.{sum as total}
 use Rattle.measure_runs.specs.Ucs4Bounds.{is_excluded, units_at}
-use Rattle.measure_runs.proofs.Ucs4Counting.{units-most, counted-utf16}
-use Rattle.measure_runs.proofs.Utf16Tests.{NoneUnless, none_begin, none_more, none_end}
-use borrow.Author.Rules.{rules}
+use Rattle.measure_runs.proofs.Utf16Tests.{NoneUnless}
 use Rattle.measure_runs.proofs.ucs4.utf16_block.Given as goal
 
 abbrev pub invariant-loop-k : goal.invariant-loop-k

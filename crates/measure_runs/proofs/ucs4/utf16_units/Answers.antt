@@ -1,5 +1,4 @@
 use Rattle.measure_runs.proofs.Ucs4Counting.{utf16-one}
-use borrow.Author.Rules.{rules}
 use Rattle.measure_runs.proofs.ucs4.utf16_units.Goals as goal
 
 pub returns-then-most-lt55296 : goal.returns-then-most-lt55296

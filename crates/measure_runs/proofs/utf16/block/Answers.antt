@@ -1,9 +1,5 @@
 use native.Mathlib.Omega.{arith}
-use mathlib.Core.Path.{sym, ◌∙◌}
-use Rattle.laws.proofs.Runs.{counted_none}
-use Rattle.measure_runs.proofs.Utf16Tests.{none_fewer, whole-all, whole_but_last}
 use Rattle.measure_runs.proofs.Utf16Counting.{counted_plain}
-use borrow.Author.Rules.{rules}
 use Rattle.measure_runs.proofs.utf16.block.Goals as goal
 
 pub returns-then-most-plain : goal.returns-then-most-plain

@@ -1,10 +1,4 @@
-use Prim.Native.Nat.{◌-◌}
-use native.Mathlib.Omega.{arith}
-use lib.ListN.{length as long}
-use Rattle.forms.specs.Forms.{utf16, strictly}
-use Rattle.laws.proofs.Runs.{Counted, counted_none, counted_join}
-use Rattle.encoder.specs.Target.{target_form}
-use borrow.Author.Rules.{rules}
+use Rattle.laws.proofs.Runs.{counted_join}
 use Rattle.measure_runs.proofs.utf16.count.Goals as goal
 
 pub loop-length-preserved : goal.loop-length-preserved

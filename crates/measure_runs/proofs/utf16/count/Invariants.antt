@@ -1,10 +1,8 @@
 use Prim.Native.Nat.{◌-◌}
-use native.Mathlib.Omega.{arith}
 use lib.ListN.{length as long}
 use Rattle.forms.specs.Forms.{utf16, strictly}
-use Rattle.laws.proofs.Runs.{Counted, counted_none, counted_join}
+use Rattle.laws.proofs.Runs.{Counted}
 use Rattle.encoder.specs.Target.{target_form}
-use borrow.Author.Rules.{rules}
 use Rattle.measure_runs.proofs.utf16.count.Given as goal
 
 abbrev pub invariant-loop-length : goal.invariant-loop-length

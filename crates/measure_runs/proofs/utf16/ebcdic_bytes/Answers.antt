@@ -1,10 +1,9 @@
-use Prim.Native.Nat.{◌+◌, ◌-◌, ◌≤◌}
+use Prim.Native.Nat.{◌+◌, ◌≤◌}
 use mathlib.Core.Path.{◌≡◌, refl, sym}
 use native.Mathlib.Omega.{arith}
-use Rattle.laws.proofs.Runs.{sum as total, sum_zero, sum_more, sum_most}
+use Rattle.laws.proofs.Runs.{sum_zero, sum_more, sum_most}
 use Rattle.measure_runs.specs.Utf16Units.{ebcdic_at}
 use Rattle.measure_runs.proofs.Utf16Counting.{ebcdic_most}
-use borrow.Author.Rules.{rules}
 use Rattle.measure_runs.proofs.utf16.ebcdic_bytes.Goals as goal
 
 pub loop-k-init : goal.loop-k-init

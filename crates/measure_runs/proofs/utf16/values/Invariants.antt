@@ -1,10 +1,7 @@
-use Prim.Native.Nat.{◌+◌, ◌-◌, ◌≤◌}
-use mathlib.Core.Path.{◌≡◌, refl, sym}
-use native.Mathlib.Omega.{arith}
-use Rattle.laws.proofs.Runs.{sum as total, sum_zero, sum_more, sum_most}
+use Prim.Native.Nat.{◌-◌, ◌≤◌}
+use mathlib.Core.Path.{◌≡◌}
+use Rattle.laws.proofs.Runs.{sum as total}
 use Rattle.measure_runs.specs.Utf16Units.{values_at}
-use Rattle.measure_runs.proofs.Utf16Counting.{values-most}
-use borrow.Author.Rules.{rules}
 use Rattle.measure_runs.proofs.utf16.values.Given as goal
 
 abbrev pub invariant-loop-k : goal.invariant-loop-k

@@ -1,7 +1,5 @@
-use Rattle.laws.proofs.Runs.{counted_none}
 use Rattle.measure_runs.proofs.Utf16Counting.{counted_bytes, counted_ebcdic, counted-values}
 use native.Mathlib.Omega.{arith}
-use borrow.Author.Rules.{rules}
 use Rattle.measure_runs.proofs.utf16.whole.Goals as goal
 
 pub returns-in-FssUtf : goal.returns-in-FssUtf

@@ -1,8 +1,5 @@
 use Prim.Native.Nat.{◌-◌, ◌≤◌}
-use mathlib.Core.Path.{refl, ◌≡◌}
-use native.Mathlib.Omega.{arith}
-use Rattle.laws.proofs.Blocks.{AtMost, at-most-none, at-most-or}
-use borrow.Author.Rules.{rules}
+use Rattle.laws.proofs.Blocks.{AtMost}
 use Rattle.measure_runs.proofs.utf16_blocks.joined.Given as goal
 
 abbrev pub invariant-loop-k : goal.invariant-loop-k

@@ -1,8 +1,6 @@
 use Prim.Native.Nat.{◌-◌, ◌≤◌}
-use native.Mathlib.Omega.{arith}
 use Rattle.forms.specs.Forms.{is_surrogate}
-use Rattle.measure_runs.proofs.Utf16Tests.{NoneUnless, none_begin, none_more, none_end}
-use borrow.Author.Rules.{rules}
+use Rattle.measure_runs.proofs.Utf16Tests.{NoneUnless}
 use Rattle.measure_runs.proofs.utf16_blocks.surrogates.Given as goal
 
 abbrev pub invariant-loop-k : goal.invariant-loop-k

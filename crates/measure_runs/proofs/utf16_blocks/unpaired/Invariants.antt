@@ -1,7 +1,5 @@
 use Prim.Native.Nat.{◌-◌, ◌≤◌}
-use native.Mathlib.Omega.{arith}
-use Rattle.measure_runs.proofs.Utf16Tests.{PairedUnless, paired_none, paired_more, paired-end}
-use borrow.Author.Rules.{rules}
+use Rattle.measure_runs.proofs.Utf16Tests.{PairedUnless}
 use Rattle.measure_runs.proofs.utf16_blocks.unpaired.Given as goal
 
 abbrev pub invariant-loop-k : goal.invariant-loop-k

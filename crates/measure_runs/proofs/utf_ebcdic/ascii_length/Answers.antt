@@ -1,9 +1,4 @@
-use Prim.Native.Nat.{◌+◌, ◌-◌, ◌≤◌}
-use lib.ListN.{length}
-use mathlib.Core.List.{map}
-use Rattle.forms.specs.Exchange.{i8_of}
-use Rattle.laws.proofs.Blocks.{AtMost, at-most-none, at-most_join, at-most_looser}
-use borrow.Author.Rules.{rules}
+use Rattle.laws.proofs.Blocks.{at-most_join, at-most_looser}
 use native.Mathlib.Omega.{arith}
 use Rattle.measure_runs.proofs.utf_ebcdic.ascii_length.Goals as goal
 

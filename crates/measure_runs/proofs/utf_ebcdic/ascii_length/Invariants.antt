@@ -2,9 +2,7 @@ use Prim.Native.Nat.{◌+◌, ◌-◌, ◌≤◌}
 use lib.ListN.{length}
 use mathlib.Core.List.{map}
 use Rattle.forms.specs.Exchange.{i8_of}
-use Rattle.laws.proofs.Blocks.{AtMost, at-most-none, at-most_join, at-most_looser}
-use borrow.Author.Rules.{rules}
-use native.Mathlib.Omega.{arith}
+use Rattle.laws.proofs.Blocks.{AtMost}
 use Rattle.measure_runs.proofs.utf_ebcdic.ascii_length.Given as goal
 
 abbrev pub invariant-loop-length : goal.invariant-loop-length

@@ -1,7 +1,5 @@
 use Rattle.laws.proofs.Runs.{counted_join}
 use Rattle.measure_runs.proofs.UtfEbcdicExchanging.{ascii_counted}
-use native.Mathlib.Omega.{arith}
-use borrow.Author.Rules.{rules}
 use Rattle.measure_runs.proofs.utf_ebcdic.count.Goals as goal
 
 pub returns : goal.returns

@@ -1,15 +1,14 @@
-use Prim.Native.Nat.{◌+◌, ◌-◌, ◌<◌}
+use Prim.Native.Nat.{◌+◌, ◌<◌}
 use lib.ListN.{length, get_or}
 use Rattle.forms.specs.Exchange.{i8_of}
 use Rattle.forms.specs.Form.{span}
 use Rattle.forms.specs.Forms.{utf_ebcdic, strictly}
-use Rattle.laws.proofs.Progress.{CharacterAt, character-value, character-onward}
-use Rattle.laws.proofs.Runs.{Counted, counted_none, counted_join}
+use Rattle.laws.proofs.Progress.{CharacterAt, character-value}
+use Rattle.laws.proofs.Runs.{Counted, counted_join}
 use Rattle.laws.proofs.FourForms.{utf_ebcdic_laws}
 use Rattle.encoder.specs.Target.{target_form}
 use Rattle.encoder.proofs.Targets.{counted_ascii, counted_more}
 use Rattle.measure_runs.proofs.UtfEbcdicExchanging.{single_at}
-use borrow.Author.Rules.{rules}
 use native.Mathlib.Omega.{arith}
 use Rattle.measure_runs.proofs.utf_ebcdic.few.Goals as goal
 

@@ -1,10 +1,7 @@
-use Prim.Native.Nat.{◌+◌, ◌-◌, ◌≤◌}
+use Prim.Native.Nat.{◌+◌}
 use mathlib.Core.Path.{sym, ◌∙◌}
-use mathlib.Core.List.{map}
-use Rattle.forms.specs.Exchange.{i8_of}
-use Rattle.laws.proofs.Blocks.{AtMost, at-most-none, at-most-or, at-most-all}
+use Rattle.laws.proofs.Blocks.{at-most-or}
 use Rattle.measure_runs.proofs.UtfEbcdicExchanging.{exchanged-at}
-use borrow.Author.Rules.{rules}
 use native.Mathlib.Omega.{arith}
 use Rattle.measure_runs.proofs.utf_ebcdic.or16.Goals as goal
 

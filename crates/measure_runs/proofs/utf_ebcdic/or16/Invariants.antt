@@ -1,11 +1,7 @@
-use Prim.Native.Nat.{◌+◌, ◌-◌, ◌≤◌}
-use mathlib.Core.Path.{sym, ◌∙◌}
+use Prim.Native.Nat.{◌-◌, ◌≤◌}
 use mathlib.Core.List.{map}
 use Rattle.forms.specs.Exchange.{i8_of}
-use Rattle.laws.proofs.Blocks.{AtMost, at-most-none, at-most-or, at-most-all}
-use Rattle.measure_runs.proofs.UtfEbcdicExchanging.{exchanged-at}
-use borrow.Author.Rules.{rules}
-use native.Mathlib.Omega.{arith}
+use Rattle.laws.proofs.Blocks.{AtMost}
 use Rattle.measure_runs.proofs.utf_ebcdic.or16.Given as goal
 
 abbrev pub invariant-loop-i : goal.invariant-loop-i

@@ -1,7 +1,6 @@
-use borrow.Author.Rules.{rules}
 use native.Mathlib.Omega.{arith}
 use Rattle.tables.specs.ByteForms.{byte_form}
-use Rattle.reader.proofs.Steps.{too_long, out_of_range, at-end, item-within, next}
+use Rattle.reader.proofs.Steps.{item-within}
 use Rattle.reader.proofs.Cursor.step_bytes.Goals as goal
 
 pub past-requires : goal.past-requires

@@ -1,6 +1,4 @@
-use mathlib.Core.Path.{refl}
-use Rattle.runs_from_fss_utf.proofs.KnownBytes.{begins, bytes_one, bytes_two, bytes_three, bytes_four, inside-two, inside-three}
-use borrow.Author.Rules.{rules}
+use Rattle.runs_from_fss_utf.proofs.KnownBytes.{bytes_two, bytes_three, bytes_four, inside-three}
 use Rattle.runs_from_fss_utf.proofs.decoding.known_at.Goals as goal
 
 pub returns-then-lead-lt224 : goal.returns-then-lead-lt224

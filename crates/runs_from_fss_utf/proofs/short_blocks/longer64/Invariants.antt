@@ -1,7 +1,5 @@
 use Prim.Native.Nat.{◌-◌, ◌≤◌}
-use Rattle.runs_from_fss_utf.proofs.ShortRuns.{NoLonger, no_longer_none, no_longer_more, no_longer_end}
-use borrow.Author.Rules.{rules}
-use native.Mathlib.Omega.{arith}
+use Rattle.runs_from_fss_utf.proofs.ShortRuns.{NoLonger}
 use Rattle.runs_from_fss_utf.proofs.short_blocks.longer64.Given as goal
 
 abbrev pub invariant-loop-i : goal.invariant-loop-i

@@ -1,10 +1,6 @@
 use Prim.Native.Nat.{◌+◌, ◌-◌, ◌≤◌}
-use mathlib.Core.Path.{refl}
 use lib.ListN.{get_or}
 use Rattle.runs_from_fss_utf.specs.ShortBlock.{Filled, ShortValue}
-use Rattle.runs_from_fss_utf.proofs.ShortRuns.{filled_none, filled_more, filled_all}
-use borrow.Author.Rules.{rules}
-use native.Mathlib.Omega.{arith}
 use Rattle.runs_from_fss_utf.proofs.short_blocks.values64.Given as goal
 
 abbrev pub invariant-loop-i : goal.invariant-loop-i

@@ -1,12 +1,8 @@
-use Prim.Native.Nat.{ℕ, ◌+◌, ◌-◌, ◌<◌}
+use Prim.Native.Nat.{ℕ, ◌+◌, ◌-◌}
 use mathlib.Core.List.{List}
-use lib.ListN.{length, get_or}
+use lib.ListN.{length}
 use Rattle.forms.specs.Forms.{fss_utf, ucs4}
-use Rattle.laws.proofs.UnitEncodings.{ucs4_below}
-use Rattle.laws.proofs.Runs.{CopyingRun, copying_run_begin, copying_run_more, copying_run_idle}
-use Rattle.measure_runs.proofs.FssUtfAsciiCounting.{ascii_more}
-use borrow.Author.Rules.{rules}
-use native.Mathlib.Omega.{arith}
+use Rattle.laws.proofs.Runs.{CopyingRun}
 use Rattle.runs_from_fss_utf.proofs.to_ucs4.ascii.Given as goal
 
 abbrev pub invariant-loop-taken : goal.invariant-loop-taken

@@ -1,11 +1,9 @@
-use Prim.Native.Nat.{◌+◌, ◌-◌, ◌≤◌, ◌<◌}
-use mathlib.Core.Path.{refl}
+use Prim.Native.Nat.{◌+◌, ◌<◌}
 use lib.ListN.{get_or}
 use Rattle.laws.proofs.UnitEncodings.{ucs4_below}
-use Rattle.laws.proofs.Blocks.{AtMost, at-most-none, at-most-or, Held, held_none, held_more, Copied, copied_none, copied_more}
-use Rattle.laws.proofs.Runs.{wrote_none, wrote_block}
+use Rattle.laws.proofs.Blocks.{at-most-or, held_more, copied_more}
+use Rattle.laws.proofs.Runs.{wrote_block}
 use Rattle.measure_runs.proofs.FssUtfAsciiCounting.{ascii_run}
-use borrow.Author.Rules.{rules}
 use native.Mathlib.Omega.{arith}
 use Rattle.runs_from_fss_utf.proofs.to_ucs4.copy16.Goals as goal
 

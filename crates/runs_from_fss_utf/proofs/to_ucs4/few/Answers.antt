@@ -6,8 +6,7 @@ use Rattle.forms.specs.Forms.{fss_utf, ucs4}
 use Rattle.laws.proofs.Progress.{CharacterAt, character-onward}
 use Rattle.laws.proofs.Runs.{Stands, WritingRun, writing_run_begin, writing_run_stands, writing_run_held, writing_run_unit, writing_run_more}
 use Rattle.laws.proofs.UnitEncodings.{ucs4-encoding, ucs4_below}
-use Rattle.runs_from_fss_utf.proofs.KnownBytes.{Bytes, begins, bytes_one, bytes_two, bytes_three, inside-two, inside-three}
-use borrow.Author.Rules.{rules}
+use Rattle.runs_from_fss_utf.proofs.KnownBytes.{Bytes, bytes_one, bytes_two, bytes_three, inside-three}
 use native.Mathlib.Omega.{arith}
 use Rattle.runs_from_fss_utf.proofs.to_ucs4.few.Goals as goal
 

@@ -1,11 +1,10 @@
-use Prim.Native.Nat.{ℕ, ◌-◌, ◌≤◌, ◌<◌}
+use Prim.Native.Nat.{ℕ, ◌<◌}
 use mathlib.Core.Path.{◌≡◌, refl}
 use mathlib.Core.List.{[], ◌∷◌}
 use Rattle.forms.specs.Form.{encode}
 use Rattle.forms.specs.Forms.{ucs4}
 use Rattle.laws.proofs.UnitEncodings.{ucs4_below}
-use Rattle.runs_from_fss_utf.proofs.ShortRuns.{ShortRun, short_run_begin, short_run_room, short_run_more, short_run_end}
-use borrow.Author.Rules.{rules}
+use Rattle.runs_from_fss_utf.proofs.ShortRuns.{short_run_begin, short_run_room, short_run_more, short_run_end}
 use native.Mathlib.Omega.{arith}
 use Rattle.runs_from_fss_utf.proofs.to_ucs4.short64.Goals as goal
 

@@ -1,11 +1,8 @@
-use Prim.Native.Nat.{ℕ, ◌+◌, ◌-◌, ◌<◌}
-use mathlib.Core.List.{List}
-use lib.ListN.{length, get_or}
-use Rattle.forms.specs.Forms.{fss_utf, utf16}
+use Prim.Native.Nat.{◌+◌, ◌<◌}
+use lib.ListN.{get_or}
 use Rattle.laws.proofs.UnitEncodings.{below_surrogates}
-use Rattle.laws.proofs.Runs.{CopyingRun, copying_run_begin, copying_run_more, copying_run_idle}
+use Rattle.laws.proofs.Runs.{copying_run_more}
 use Rattle.measure_runs.proofs.FssUtfAsciiCounting.{ascii_more}
-use borrow.Author.Rules.{rules}
 use native.Mathlib.Omega.{arith}
 use Rattle.runs_from_fss_utf.proofs.to_utf16.ascii.Goals as goal
 

@@ -1,12 +1,5 @@
-use Prim.Native.Nat.{◌+◌, ◌-◌, ◌≤◌, ◌<◌}
-use mathlib.Core.Path.{refl}
-use lib.ListN.{get_or}
-use Rattle.laws.proofs.UnitEncodings.{below_surrogates}
-use Rattle.laws.proofs.Blocks.{AtMost, at-most-none, at-most-or, Held, held_none, held_more, Copied, copied_none, copied_more}
-use Rattle.laws.proofs.Runs.{wrote_none, wrote_block}
-use Rattle.measure_runs.proofs.FssUtfAsciiCounting.{ascii_run}
-use borrow.Author.Rules.{rules}
-use native.Mathlib.Omega.{arith}
+use Prim.Native.Nat.{◌-◌, ◌≤◌}
+use Rattle.laws.proofs.Blocks.{AtMost, Held, Copied}
 use Rattle.runs_from_fss_utf.proofs.to_utf16.copy16.Given as goal
 
 abbrev pub invariant-loop-i : goal.invariant-loop-i

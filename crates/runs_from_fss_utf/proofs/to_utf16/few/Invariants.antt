@@ -1,15 +1,6 @@
-use Prim.Native.Nat.{ℕ, ◌+◌, ◌*◌, ◌-◌, ◌%◌, ◌<◌}
-use mathlib.Core.List.{List}
-use lib.ListN.{length, get_or, set}
-use Rattle.forms.specs.Form.{span}
+use Prim.Native.Nat.{◌-◌}
 use Rattle.forms.specs.Forms.{fss_utf, utf16}
-use Rattle.laws.proofs.Progress.{CharacterAt, character-onward}
-use Rattle.laws.proofs.Runs.{Stands, WritingRun, writing_run_begin, writing_run_stands, writing_run_held, writing_run_unit, writing_run_more}
-use Rattle.laws.proofs.FourForms.{utf16_laws}
-use Rattle.laws.proofs.UnitEncodings.{below_surrogates, unit}
-use Rattle.runs_from_fss_utf.proofs.KnownBytes.{Bytes, begins, bytes_one, bytes_two, bytes_three, inside-two, inside-three}
-use borrow.Author.Rules.{rules}
-use native.Mathlib.Omega.{arith}
+use Rattle.laws.proofs.Runs.{WritingRun}
 use Rattle.runs_from_fss_utf.proofs.to_utf16.few.Given as goal
 
 abbrev pub invariant-loop-length : goal.invariant-loop-length

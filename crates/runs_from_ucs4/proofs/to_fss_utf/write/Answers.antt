@@ -3,7 +3,6 @@ use native.Mathlib.Omega.{arith}
 use lib.ListN.{length}
 use Rattle.laws.proofs.Values.{wrote_encoded}
 use Rattle.measure_runs.proofs.Ucs4Units.{units_run, units_encodable, units-room}
-use borrow.Author.Rules.{rules}
 use Rattle.runs_from_ucs4.proofs.to_fss_utf.write.Goals as goal
 
 pub write_all-end-requires : goal.write_all-end-requires

@@ -1,11 +1,10 @@
-use Prim.Native.Nat.{◌+◌, ◌-◌}
-use lib.ListN.{length, get_or}
+use Prim.Native.Nat.{◌+◌}
+use lib.ListN.{get_or}
 use Rattle.forms.specs.Form.{span}
-use Rattle.forms.specs.Forms.{utf_ebcdic, ucs4}
-use Rattle.laws.proofs.Progress.{CharacterAt, character-onward}
-use Rattle.laws.proofs.Runs.{WritingRun, writing_run_begin, writing_run_stands, writing_run_held, writing_run_more}
+use Rattle.forms.specs.Forms.{ucs4}
+use Rattle.laws.proofs.Progress.{CharacterAt}
+use Rattle.laws.proofs.Runs.{writing_run_begin, writing_run_stands, writing_run_held, writing_run_more}
 use Rattle.runs_from_ucs4.proofs.Units.{unit_stands}
-use borrow.Author.Rules.{rules}
 use native.Mathlib.Omega.{arith}
 use Rattle.runs_from_ucs4.proofs.to_utf_ebcdic.write.Goals as goal
 

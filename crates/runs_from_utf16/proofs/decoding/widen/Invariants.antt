@@ -1,7 +1,5 @@
 use Prim.Native.Nat.{◌-◌, ◌≤◌}
-use native.Mathlib.Omega.{arith}
-use Rattle.laws.proofs.Values.{CopiedTo, copied_none, copied_more, copied_length, copied_all}
-use borrow.Author.Rules.{rules}
+use Rattle.laws.proofs.Values.{CopiedTo}
 use Rattle.runs_from_utf16.proofs.decoding.widen.Given as goal
 
 abbrev pub invariant-loop-k : goal.invariant-loop-k

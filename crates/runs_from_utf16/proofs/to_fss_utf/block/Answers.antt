@@ -2,7 +2,6 @@ use native.Mathlib.Omega.{arith}
 use lib.ListN.{replicate}
 use Rattle.laws.proofs.Blocks.{AtMost, at-most_looser, no_surrogates}
 use Rattle.runs_from_utf16.proofs.Singles.{ascii_room, ascii_wrote, plain_encodable, plain_room, plain_wrote, local_encodable, local-room, local_wrote}
-use borrow.Author.Rules.{rules}
 use Rattle.runs_from_utf16.proofs.to_fss_utf.block.Goals as goal
 
 pub copy-requires : goal.copy-requires

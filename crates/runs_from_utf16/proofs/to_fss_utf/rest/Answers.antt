@@ -1,7 +1,6 @@
 use native.Mathlib.Omega.{arith}
 use Rattle.laws.proofs.Blocks.{AtMost, at-most_looser}
 use Rattle.runs_from_utf16.proofs.Singles.{ascii_room, ascii_wrote}
-use borrow.Author.Rules.{rules}
 use Rattle.runs_from_utf16.proofs.to_fss_utf.rest.Goals as goal
 
 pub copy-requires : goal.copy-requires

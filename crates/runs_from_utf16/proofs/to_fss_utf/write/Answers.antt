@@ -1,9 +1,5 @@
-use Prim.Native.Nat.{◌-◌}
 use native.Mathlib.Omega.{arith}
-use lib.ListN.{length as long}
-use Rattle.forms.specs.Forms.{utf16, fss_utf}
-use Rattle.laws.proofs.Values.{WrittenTo, written_none, written-length, written_left, written_run, written_wrote, written-within}
-use borrow.Author.Rules.{rules}
+use Rattle.laws.proofs.Values.{written_none, written_left, written_run, written_wrote}
 use Rattle.runs_from_utf16.proofs.to_fss_utf.write.Goals as goal
 
 pub loop-length-init : goal.loop-length-init

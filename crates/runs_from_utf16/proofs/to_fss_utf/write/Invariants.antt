@@ -1,9 +1,7 @@
 use Prim.Native.Nat.{◌-◌}
-use native.Mathlib.Omega.{arith}
 use lib.ListN.{length as long}
 use Rattle.forms.specs.Forms.{utf16, fss_utf}
-use Rattle.laws.proofs.Values.{WrittenTo, written_none, written-length, written_left, written_run, written_wrote, written-within}
-use borrow.Author.Rules.{rules}
+use Rattle.laws.proofs.Values.{WrittenTo}
 use Rattle.runs_from_utf16.proofs.to_fss_utf.write.Given as goal
 
 abbrev pub invariant-loop-length : goal.invariant-loop-length

@@ -1,10 +1,6 @@
 use Prim.Native.Nat.{◌-◌}
-use native.Mathlib.Omega.{arith}
 use Rattle.forms.specs.Forms.{utf16, ucs4}
-use Rattle.laws.proofs.FourForms.{utf16_laws}
-use Rattle.laws.proofs.Progress.{character-value, character-onward}
-use Rattle.laws.proofs.Runs.{run_one, convertible_stands, convertible_character}
-use Rattle.laws.proofs.Values.{WrittenTo, written_none, written-length, written_left, written-room, written_join, written_wrote}
+use Rattle.laws.proofs.Values.{WrittenTo}
 use Rattle.runs_from_utf16.proofs.to_ucs4.each.Given as goal
 
 abbrev pub invariant-loop-length : goal.invariant-loop-length

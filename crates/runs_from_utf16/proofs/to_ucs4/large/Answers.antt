@@ -1,6 +1,5 @@
 use native.Mathlib.Omega.{arith}
 use Rattle.runs_from_utf16.proofs.Singles.{widened_room, widened_wrote}
-use borrow.Author.Rules.{rules}
 use Rattle.runs_from_utf16.proofs.to_ucs4.large.Goals as goal
 
 pub widen-requires : goal.widen-requires

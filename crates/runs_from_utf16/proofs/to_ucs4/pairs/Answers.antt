@@ -1,19 +1,11 @@
-use Prim.Native.Nat.{ℕ, ◌+◌, ◌-◌, ◌≤◌, ◌<◌}
+use Prim.Native.Nat.{ℕ, ◌+◌, ◌<◌}
 use mathlib.Core.Path.{◌≡◌, ap}
-use mathlib.Core.Bool.{not}
-use mathlib.Core.List.{List}
 use native.Mathlib.Omega.{arith}
-use lib.ListN.{length as long, get_or}
-use Rattle.forms.specs.Form.{encode}
-use Rattle.forms.specs.Forms.{utf16, ucs4}
-use Rattle.forms.specs.Buffer.{with_units}
+use lib.ListN.{length as long}
 use Rattle.laws.proofs.FourForms.{utf16_laws}
-use Rattle.laws.proofs.Progress.{character-value, character-onward}
-use Rattle.laws.proofs.Values.{WrittenTo, written-length, written_wrote}
-use Rattle.measure_runs.specs.Utf16Units.{is_low}
-use Rattle.measure_runs.proofs.Utf16Counting.{number-most}
+use Rattle.laws.proofs.Progress.{character-value}
+use Rattle.laws.proofs.Values.{written_wrote}
 use Rattle.runs_from_utf16.proofs.Midway.{Midway, midway_none, midway_room, midway_high, midway_more, midway_stands, midway_last-room, midway_all, midway_passed}
-use borrow.Author.Rules.{rules}
 use Rattle.runs_from_utf16.proofs.to_ucs4.pairs.Goals as goal
 
 pub loop-k-init : goal.loop-k-init

@@ -1,8 +1,4 @@
-use Prim.Native.Nat.{◌-◌}
-use native.Mathlib.Omega.{arith}
-use Rattle.forms.specs.Forms.{utf16, ucs4}
-use Rattle.laws.proofs.Values.{WrittenTo, written_none, written-length, written_left, written_run, written_wrote, written-within}
-use borrow.Author.Rules.{rules}
+use Rattle.laws.proofs.Values.{written_run}
 use Rattle.runs_from_utf16.proofs.to_ucs4.quarters.Goals as goal
 
 pub loop-length-preserved : goal.loop-length-preserved

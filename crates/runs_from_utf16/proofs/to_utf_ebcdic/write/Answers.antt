@@ -1,10 +1,8 @@
-use Prim.Native.Nat.{◌+◌, ◌-◌}
-use lib.ListN.{length}
+use Prim.Native.Nat.{◌+◌}
 use Rattle.forms.specs.Form.{span}
-use Rattle.forms.specs.Forms.{utf16, utf_ebcdic}
+use Rattle.forms.specs.Forms.{utf16}
 use Rattle.laws.proofs.Progress.{CharacterAt, character-onward}
-use Rattle.laws.proofs.Runs.{WritingRun, writing_run_begin, writing_run_held, writing_run_more}
-use borrow.Author.Rules.{rules}
+use Rattle.laws.proofs.Runs.{writing_run_begin, writing_run_held, writing_run_more}
 use native.Mathlib.Omega.{arith}
 use Rattle.runs_from_utf16.proofs.to_utf_ebcdic.write.Goals as goal
 

@@ -1,11 +1,6 @@
-use Prim.Native.Nat.{◌+◌, ◌-◌}
-use lib.ListN.{length}
-use Rattle.forms.specs.Form.{span}
+use Prim.Native.Nat.{◌-◌}
 use Rattle.forms.specs.Forms.{utf16, utf_ebcdic}
-use Rattle.laws.proofs.Progress.{CharacterAt, character-onward}
-use Rattle.laws.proofs.Runs.{WritingRun, writing_run_begin, writing_run_held, writing_run_more}
-use borrow.Author.Rules.{rules}
-use native.Mathlib.Omega.{arith}
+use Rattle.laws.proofs.Runs.{WritingRun}
 use Rattle.runs_from_utf16.proofs.to_utf_ebcdic.write.Given as goal
 
 abbrev pub invariant-loop-length : goal.invariant-loop-length

@@ -1,7 +1,5 @@
-use mathlib.Core.Path.{refl}
 use native.Mathlib.Omega.{arith}
-use Rattle.runs_from_utf_ebcdic.proofs.KnownBytes.{begins, bytes_one, bytes_two, bytes_three, bytes_four, inside-two, inside-three}
-use borrow.Author.Rules.{rules}
+use Rattle.runs_from_utf_ebcdic.proofs.KnownBytes.{bytes_one, bytes_two, bytes_three, bytes_four, inside-three}
 use Rattle.runs_from_utf_ebcdic.proofs.decoding.known_at.Goals as goal
 
 pub returns-then-lead-lt160 : goal.returns-then-lead-lt160

@@ -1,7 +1,4 @@
-use native.Mathlib.Omega.{arith}
-use borrow.Author.Rules.{rules}
-use Rattle.laws.proofs.Runs.{wrote_length}
-use Rattle.runs_from_utf_ebcdic.proofs.AfterBlocks.{left, both, both_fit}
+use Rattle.runs_from_utf_ebcdic.proofs.AfterBlocks.{both}
 use Rattle.runs_from_utf_ebcdic.proofs.to_fss_utf.write.Goals as goal
 
 pub returns : goal.returns

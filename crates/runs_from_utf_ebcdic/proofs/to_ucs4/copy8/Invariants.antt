@@ -1,13 +1,7 @@
-use Prim.Native.Nat.{◌+◌, ◌-◌, ◌≤◌}
-use mathlib.Core.Path.{refl, sym, ◌∙◌}
+use Prim.Native.Nat.{◌-◌, ◌≤◌}
 use mathlib.Core.List.{map}
 use Rattle.forms.specs.Exchange.{i8_of}
-use Rattle.laws.proofs.Blocks.{AtMost, at-most-none, at-most-or, Held, held_none, held_more, Copied, copied_none, copied_more}
-use Rattle.laws.proofs.Runs.{wrote_none}
-use Rattle.measure_runs.proofs.UtfEbcdicExchanging.{exchanged-at, ascii_wrote}
-use Rattle.laws.proofs.UnitEncodings.{ucs4_below}
-use borrow.Author.Rules.{rules}
-use native.Mathlib.Omega.{arith}
+use Rattle.laws.proofs.Blocks.{AtMost, Held, Copied}
 use Rattle.runs_from_utf_ebcdic.proofs.to_ucs4.copy8.Given as goal
 
 abbrev pub invariant-loop-i : goal.invariant-loop-i

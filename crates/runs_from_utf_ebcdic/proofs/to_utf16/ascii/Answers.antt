@@ -1,7 +1,4 @@
-use Prim.Native.Nat.{◌+◌, ◌-◌}
-use lib.ListN.{length}
-use Rattle.forms.specs.Forms.{utf_ebcdic, utf16}
-use Rattle.laws.proofs.Runs.{CopyingRun, copying_run_begin, copying_run_more, copying_run_idle}
+use Rattle.laws.proofs.Runs.{copying_run_more}
 use native.Mathlib.Omega.{arith}
 use Rattle.runs_from_utf_ebcdic.proofs.to_utf16.ascii.Goals as goal
 

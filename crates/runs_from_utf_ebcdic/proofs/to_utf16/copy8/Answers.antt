@@ -1,12 +1,8 @@
-use Prim.Native.Nat.{◌+◌, ◌-◌, ◌≤◌}
-use mathlib.Core.Path.{refl, sym, ◌∙◌}
-use mathlib.Core.List.{map}
-use Rattle.forms.specs.Exchange.{i8_of}
-use Rattle.laws.proofs.Blocks.{AtMost, at-most-none, at-most-or, Held, held_none, held_more, Copied, copied_none, copied_more}
-use Rattle.laws.proofs.Runs.{wrote_none}
+use Prim.Native.Nat.{◌+◌}
+use mathlib.Core.Path.{sym, ◌∙◌}
+use Rattle.laws.proofs.Blocks.{at-most-or, held_more, copied_more}
 use Rattle.measure_runs.proofs.UtfEbcdicExchanging.{exchanged-at, ascii_wrote}
 use Rattle.laws.proofs.UnitEncodings.{below_surrogates}
-use borrow.Author.Rules.{rules}
 use native.Mathlib.Omega.{arith}
 use Rattle.runs_from_utf_ebcdic.proofs.to_utf16.copy8.Goals as goal
 

@@ -1,4 +1,3 @@
-use borrow.Author.Rules.{rules}
 use Rattle.tables.specs.ByteForms.{byte_form}
 use Rattle.lossy.proofs.Counting.{room_known}
 use Rattle.lossy.proofs.room.bytes.has_room.Goals as goal

@@ -1,10 +1,7 @@
 use Prim.Native.Nat.{◌-◌}
-use native.Mathlib.Omega.{arith}
-use borrow.Author.Rules.{rules}
 use lib.ListN.{length}
 use Rattle.forms.specs.Forms.{ucs4}
-use Rattle.laws.proofs.ReadItems.{ItemAt, item-at, item-onward}
-use Rattle.lossy.proofs.Counting.{Counting, counting_begin, counting_more, counting_end}
+use Rattle.lossy.proofs.Counting.{Counting}
 use Rattle.lossy.proofs.room.ucs4.count.Given as goal
 
 abbrev pub invariant-loop-at : goal.invariant-loop-at

@@ -1,4 +1,3 @@
-use borrow.Author.Rules.{rules}
 use Rattle.forms.specs.Forms.{ucs4}
 use Rattle.lossy.proofs.Counting.{room_known}
 use Rattle.lossy.proofs.room.ucs4.has_room.Goals as goal

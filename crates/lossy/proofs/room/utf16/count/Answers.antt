@@ -1,10 +1,6 @@
-use Prim.Native.Nat.{◌-◌}
-use native.Mathlib.Omega.{arith}
-use borrow.Author.Rules.{rules}
-use lib.ListN.{length}
 use Rattle.forms.specs.Forms.{utf16}
-use Rattle.laws.proofs.ReadItems.{ItemAt, item-at, item-onward}
-use Rattle.lossy.proofs.Counting.{Counting, counting_begin, counting_more, counting_end}
+use Rattle.laws.proofs.ReadItems.{ItemAt, item-at}
+use Rattle.lossy.proofs.Counting.{counting_more}
 use Rattle.lossy.proofs.room.utf16.count.Goals as goal
 
 pub loop-at-preserved : goal.loop-at-preserved
