@@ -9,13 +9,13 @@ fn ill_formed(p3: u8, p2: u8, p1: u8, byte: u8) -> bool
 {
     let asks = (p1 >= 0xC0) | (p2 >= 0xE0) | (p3 >= 0xF0);
     let trails = (byte >= 0x80) & (byte < 0xC0);
-    let no_byte_lem = (byte == 0xC0) | (byte == 0xC1) | (byte >= 0xF5);
+    let no_byte = (byte == 0xC0) | (byte == 0xC1) | (byte >= 0xF5);
     let no_second = (p1 == 0xE0) & (byte < 0xA0)
         | (p1 == 0xED) & (byte >= 0xA0)
         | (p1 == 0xF0) & (byte < 0x90)
         | (p1 == 0xF4) & (byte >= 0x90);
     let no_third = (p2 == 0xEF) & (p1 == 0xBF) & (byte >= 0xBE);
-    (asks != trails) | no_byte_lem | no_second | no_third
+    (asks != trails) | no_byte | no_second | no_third
 }
 
 pub fn ill_formed64(src: &[u8], at: usize) -> bool
