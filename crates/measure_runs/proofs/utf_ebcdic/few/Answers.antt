@@ -10,7 +10,17 @@ use Rattle.encoder.specs.Target.{target_form}
 use Rattle.encoder.proofs.Targets.{counted_ascii, counted_more}
 use Rattle.measure_runs.proofs.UtfEbcdicExchanging.{single_at}
 use native.Mathlib.Omega.{arith}
+use Rattle.measure_runs.proofs.utf_ebcdic.few.Goals.{Else-needed-eq0}
 use Rattle.measure_runs.proofs.utf_ebcdic.few.Goals as goal
+
+turned : (c : Else-needed-eq0) → let z = c.args in
+    Counted utf_ebcdic (strictly (target_form z.target)) z.src.now z.at (c.loop-length.length + c.short_at-short.result.length) (c.loop-length.units + c.encoded_length-needed.result)
+turned c =
+    let read : (let z = c.args in
+    let p = z.at + c.loop-length.length in
+    CharacterAt utf_ebcdic z.src.now p c.short_at-short.result.value (span p c.short_at-short.result.length)) =
+    c.short_at-short.ensures.character c.if-taken-eq0.false in
+    counted_more c.args.target c.loop-length.invariant read c.encoded_length-needed.ensures c.if-needed-eq0.false
 
 pub loop-length-preserved-then-exchanged-lt128 : goal.loop-length-preserved-then-exchanged-lt128
 loop-length-preserved-then-exchanged-lt128 c =
@@ -31,34 +41,10 @@ encoded_length-needed-requires c =
     character-value utf_ebcdic_laws read
 
 pub overflow_add-length-in-loop-length : goal.overflow_add-length-in-loop-length
-overflow_add-length-in-loop-length c =
-    let read : (let z = c.args in
-    let p = z.at + c.loop-length.length in
-    CharacterAt utf_ebcdic z.src.now p c.short_at-short.result.value (span p c.short_at-short.result.length)) =
-    c.short_at-short.ensures.character c.if-taken-eq0.false in
-    let turned : (let z = c.args in
-    Counted utf_ebcdic (strictly (target_form z.target)) z.src.now z.at (c.loop-length.length + c.short_at-short.result.length) (c.loop-length.units + c.encoded_length-needed.result)) =
-    counted_more c.args.target c.loop-length.invariant read c.encoded_length-needed.ensures c.if-needed-eq0.false in
-    omega (arith, turned.run.inside, c.requires.2)
+overflow_add-length-in-loop-length c = omega (arith, (turned (goal.at.overflow_add-length-in-loop-length c).Else-needed-eq0).run.inside, c.requires.2)
 
 pub overflow_add-units-in-loop-length : goal.overflow_add-units-in-loop-length
-overflow_add-units-in-loop-length c =
-    let read : (let z = c.args in
-    let p = z.at + c.loop-length.length in
-    CharacterAt utf_ebcdic z.src.now p c.short_at-short.result.value (span p c.short_at-short.result.length)) =
-    c.short_at-short.ensures.character c.if-taken-eq0.false in
-    let turned : (let z = c.args in
-    Counted utf_ebcdic (strictly (target_form z.target)) z.src.now z.at (c.loop-length.length + c.short_at-short.result.length) (c.loop-length.units + c.encoded_length-needed.result)) =
-    counted_more c.args.target c.loop-length.invariant read c.encoded_length-needed.ensures c.if-needed-eq0.false in
-    omega (arith, turned.small, turned.run.inside, c.requires.2)
+overflow_add-units-in-loop-length c = omega (arith, (turned (goal.at.overflow_add-units-in-loop-length c).Else-needed-eq0).small, (turned (goal.at.overflow_add-units-in-loop-length c).Else-needed-eq0).run.inside, c.requires.2)
 
 pub loop-length-preserved : goal.loop-length-preserved
-loop-length-preserved c =
-    let read : (let z = c.args in
-    let p = z.at + c.loop-length.length in
-    CharacterAt utf_ebcdic z.src.now p c.short_at-short.result.value (span p c.short_at-short.result.length)) =
-    c.short_at-short.ensures.character c.if-taken-eq0.false in
-    let turned : (let z = c.args in
-    Counted utf_ebcdic (strictly (target_form z.target)) z.src.now z.at (c.loop-length.length + c.short_at-short.result.length) (c.loop-length.units + c.encoded_length-needed.result)) =
-    counted_more c.args.target c.loop-length.invariant read c.encoded_length-needed.ensures c.if-needed-eq0.false in
-    turned
+loop-length-preserved c = (turned (goal.at.loop-length-preserved c).Else-needed-eq0)
