@@ -8,8 +8,6 @@ use lib.Dec.{ltb}
 use lib.ListN.{length, take, drop, length-map}
 use lib.Seq.{take_at, drop_at}
 use Rattle.types.specs.declared.Fault.TheVariants.{SourceTooLong, BufferTooShort}
-use Rattle.types.specs.declared.Decoding.{Decoding}
-use Rattle.types.specs.declared.Decoding.TheVariants.{Decoded}
 use Rattle.forms.specs.Fault.{limit, refusal}
 use Rattle.forms.specs.Form.{Form, items}
 use Rattle.forms.specs.Answer.{decoding_numbers}
@@ -17,6 +15,9 @@ use Rattle.forms.specs.Lossy.{value_of, offset_of, marks, Outcome, decoded, refu
 use Rattle.demand3.specs.Demand3.{Parts, Demand3, DecodesLossy}
 use Rattle.laws.proofs.FormLaws.{Laws}
 use Rattle.demand3.proofs.ThreeParts.{three_count, three-marks, parts}
+use Rattle.std.specs.Prelude.{Result, Ok}
+use Rattle.types.specs.declared.Refusal.{Refusal}
+use Rattle.types.specs.declared.Counts.{Counts}
 
 -- when each outcome is
 module _ (F : Form) (s : List ℕ) (m n : ℕ) where
@@ -43,11 +44,11 @@ answer-numbers (refused q) = refl
 
 -- the promise settles the answer, its numbers, and every cell of both buffers
 pub settled :
-    (F : Form) (s d e : List ℕ) (q r : Decoding) (o p x y : List ℕ) → DecodesLossy F s d e q o p → DecodesLossy F s d e r x y
+    (F : Form) (s d e : List ℕ) (q r : Result Counts Refusal) (o p x y : List ℕ) → DecodesLossy F s d e q o p → DecodesLossy F s d e r x y
     → (q ≡ r) × (decoding_numbers q ≡ decoding_numbers r) × (o ≡ x) × (p ≡ y)
 settled F s d e q r o p x y a b = (a.answer ∙ sym b.answer, a.numbers ∙ sym b.numbers, a.values ∙ sym b.values, a.starts ∙ sym b.starts)
 
-module _ (F : Form) (laws : Laws F) (s d e : List ℕ) (r : Decoding) (o p : List ℕ)
+module _ (F : Form) (laws : Laws F) (s d e : List ℕ) (r : Result Counts Refusal) (o p : List ℕ)
     (answer : r ≡ answer_of (lossy F s (length d) (length e)))
     (values : o ≡ values_in (lossy F s (length d) (length e)) d)
     (starts : p ≡ starts_in (lossy F s (length d) (length e)) e)
@@ -64,9 +65,9 @@ module _ (F : Form) (laws : Laws F) (s d e : List ℕ) (r : Decoding) (o p : Lis
       where
         go :
             (n : ℕ) → length (items F s) ≡ n → (k : ℕ) → marks (items F s) ≡ k → o ≡ map value_of (items F s) ++ drop (length (items F s)) d
-            → p ≡ map offset_of (items F s) ++ drop (length (items F s)) e → r ≡ Decoded (counts (length (items F s)) (marks (items F s)))
+            → p ≡ map offset_of (items F s) ++ drop (length (items F s)) e → r ≡ Ok (counts (length (items F s)) (marks (items F s)))
             → Parts F vs m ws s (map value_of (items F s)) (map offset_of (items F s))
-            → (r ≡ Decoded (counts n k)) × Parts F vs m ws s (take n o) (take n p) × (drop n o ≡ drop n d) × (drop n p ≡ drop n e)
+            → (r ≡ Ok (counts n k)) × Parts F vs m ws s (take n o) (take n p) × (drop n o ≡ drop n d) × (drop n p ≡ drop n e)
         go n x k y v t w z =
             let is = items F s in
             let g : length (map value_of is) ≡ n = length-map is value_of ∙ x in
@@ -75,7 +76,7 @@ module _ (F : Form) (laws : Laws F) (s d e : List ℕ) (r : Decoding) (o p : Lis
             let b : take n p ≡ map offset_of is = ap (take n) t ∙ take_at (map offset_of is) (drop (length is) e) n h in
             let i : drop n o ≡ drop n d = ap (drop n) v ∙ drop_at (map value_of is) (drop (length is) d) n g ∙ ap (λ (c : ℕ). drop c d) x in
             let j : drop n p ≡ drop n e = ap (drop n) t ∙ drop_at (map offset_of is) (drop (length is) e) n h ∙ ap (λ (c : ℕ). drop c e) x in
-            (w ∙ ap (λ (c : ℕ). Decoded (counts c (marks is))) x ∙ ap (λ (c : ℕ). Decoded (counts n c)) y, rw (a, b) z, i, j)
+            (w ∙ ap (λ (c : ℕ). Ok (counts c (marks is))) x ∙ ap (λ (c : ℕ). Ok (counts n c)) y, rw (a, b) z, i, j)
 
     pub promise : DecodesLossy F s d e r o p
     promise =

@@ -1,11 +1,11 @@
 -- Demand 3 of the tender, in the words of document 01: well-formed characters, any units, well-formed characters.
-use Rattle.std.specs.Prelude.{ℕ, ◌+◌, ◌≤◌, ◌<◌, ◌≡◌, ◌≢◌, ◌↔◌, List, [], ◌∷◌, ◌++◌, map, length, get_or, take, drop}
-use Rattle.types.specs.declared.Decoding.{Decoding}
-use Rattle.types.specs.declared.Decoding.TheVariants.{Decoded}
+use Rattle.std.specs.Prelude.{ℕ, ◌+◌, ◌≤◌, ◌<◌, ◌≡◌, ◌≢◌, ◌↔◌, List, [], ◌∷◌, ◌++◌, map, length, get_or, take, drop, Result, Ok}
 use Rattle.forms.specs.Fault.{limit}
 use Rattle.forms.specs.Form.{Form, items, encode, encode_all, AllEncodable, OccursAt}
 use Rattle.forms.specs.Answer.{decoding_numbers}
 use Rattle.forms.specs.Lossy.{mark_value, value_of, offset_of, marks, lossy, counts, answer_of, outcome_numbers, values_in, starts_in}
+use Rattle.types.specs.declared.Refusal.{Refusal}
+use Rattle.types.specs.declared.Counts.{Counts}
 
 -- "the values of its good characters, in order, with their starts": the starts from p on
 abbrev pub starts_from : Form → ℕ → List ℕ → List ℕ
@@ -49,18 +49,18 @@ pub record Parts (F : Form) (vs m ws s values starts : List ℕ) : Type 0 where
   pub covered : (p : ℕ) → p < length s → Outside F values starts p → UnderOneMark values starts p
 
 -- demand 3 of a call that was lent the text s and the buffers d and e, answered r and left o and p
-abbrev pub Demand3 : Form → List ℕ → List ℕ → List ℕ → Decoding → List ℕ → List ℕ → Type 0
+abbrev pub Demand3 : Form → List ℕ → List ℕ → List ℕ → Result Counts Refusal → List ℕ → List ℕ → Type 0
 Demand3 F s d e r o p =
     (vs m ws : List ℕ) → AllEncodable F vs → AllEncodable F ws → s ≡ encode_all F vs ++ (m ++ encode_all F ws)
     → length s ≤ limit → length (items F s) ≤ length d → length (items F s) ≤ length e
     → let n = length vs + length (items F m) + length ws in
-    (r ≡ Decoded (counts n (marks (items F m))))
+    (r ≡ Ok (counts n (marks (items F m))))
     × Parts F vs m ws s (take n o) (take n p)
     × (drop n o ≡ drop n d)
     × (drop n p ≡ drop n e)
 
 -- what a lossy decoding promises: its answer, the numbers of it, every cell of both buffers, and demand 3 of them
-pub record DecodesLossy (F : Form) (s d e : List ℕ) (r : Decoding) (o p : List ℕ) : Type 0 where
+pub record DecodesLossy (F : Form) (s d e : List ℕ) (r : Result Counts Refusal) (o p : List ℕ) : Type 0 where
   pub answer : r ≡ answer_of (lossy F s (length d) (length e))
   pub numbers : decoding_numbers r ≡ outcome_numbers (lossy F s (length d) (length e))
   pub values : o ≡ values_in (lossy F s (length d) (length e)) d

@@ -11,22 +11,19 @@ use Rattle.types.specs.declared.Fault.{Fault}
 use Rattle.types.specs.declared.Fault.TheVariants.{SourceTooLong, MissingTrailing, StrayTrailing, InvalidUnit, Overlong, Unrepresentable, BufferTooShort, OffsetOutOfRange, Surrogate, NonCharacter}
 use Rattle.types.specs.declared.Item.{Item}
 use Rattle.types.specs.declared.Item.TheVariants.{Character, Mark}
-use Rattle.types.specs.declared.Conversion.{Conversion}
-use Rattle.types.specs.declared.Conversion.TheVariants.{Units, Refused}
-use Rattle.types.specs.declared.Found.{Found}
 use Rattle.forms.specs.Fault.{limit, refusal}
 use Rattle.forms.specs.Answer.{numbers, conversion_numbers, decoding_numbers, item_values, item_numbers, found_numbers}
 use Rattle.forms.specs.Form.{units, Form, sequences, span, span_of, items, encode, encode_all, AllEncodable, WellFormed, OccursAt}
 use Rattle.forms.specs.Exchange.{ebcdic_of}
 use Rattle.forms.specs.Forms.{fss_utf, i8, utf_ebcdic, utf16, ucs4, turned_away, strictly}
 use Rattle.forms.specs.Flags.{flag_of}
-use Rattle.types.specs.declared.Decoding.TheVariants as Decoding
-use Rattle.types.specs.declared.Decoding.TheVariants.{Decoded}
 use Rattle.forms.specs.Lossy as Lossy
 use Rattle.forms.specs.Lossy.{lossy, counts, values_in, starts_in}
 use Rattle.forms.specs.Buffer.{with_units, Holds}
 use Rattle.forms.specs.Conversion.{refused, unheld_by, refusal_at, convert_items, outcome, strict, answer_of, cells_of, Measures, Converts}
 use Rattle.forms.specs.Finder.{end_of, covering, or_beyond, item_covering, numbers_at, FindsItem}
+use Rattle.std.specs.Prelude.{Result, Ok, Err}
+use Rattle.types.specs.declared.Refusal.{Refusal}
 
 pub data Example : Type 0 where
   -- a value and its legal encoding, which is read as the value
@@ -38,22 +35,22 @@ pub data Example : Type 0 where
   -- a text and its items
   reads : Form → List ℕ → List Item → Example
   -- a text converted into a buffer: the answer, and the buffer's cells then
-  converts : Form → Form → List ℕ → List ℕ → Conversion → List ℕ → Example
+  converts : Form → Form → List ℕ → List ℕ → Result ℕ Refusal → List ℕ → Example
 
-pub data Result : Type 0 where
-  encoded : List ℕ → List Item → Result
-  excluded : List ℕ → Option Fault → Result
-  read : List Item → Result
-  converted : Conversion → List ℕ → Result
+pub data Given : Type 0 where
+  encoded : List ℕ → List Item → Given
+  excluded : List ℕ → Option Fault → Given
+  read : List Item → Given
+  converted : Result ℕ Refusal → List ℕ → Given
 
-abbrev pub actual : Example → Result
+abbrev pub actual : Example → Given
 actual (encodes F v e) = encoded (encode F v) (items F e)
 actual (excludes F v f) = excluded (encode F v) (F.excluded v)
 actual (lacks F v) = excluded (encode F v) (F.excluded v)
 actual (reads F s is) = read (items F s)
 actual (converts F G s d a t) = converted (answer_of (strict F G s (length d))) (cells_of (strict F G s (length d)) d)
 
-abbrev pub expected : Example → Result
+abbrev pub expected : Example → Given
 expected (encodes F v e) = encoded e (Character v (span 0 (length e)) ∷ [])
 expected (excludes F v f) = excluded [] (some f)
 expected (lacks F v) = excluded [] none
@@ -169,32 +166,32 @@ readings_hold = refl
 -- the lowest place at which a fault applies decides; then the room
 abbrev pub conversions : List Example
 conversions =
-    converts fss_utf utf16 [] [] (Units 0) [] ∷
-    converts fss_utf utf16 (0x41 ∷ 0xF0 ∷ 0x90 ∷ 0x80 ∷ 0x80 ∷ []) (7 ∷ 7 ∷ 7 ∷ 7 ∷ []) (Units 3) (0x41 ∷ 0xD800 ∷ 0xDC00 ∷ 7 ∷ []) ∷
-    converts fss_utf utf16 (0x41 ∷ 0xF0 ∷ 0x90 ∷ 0x80 ∷ 0x80 ∷ []) (7 ∷ 7 ∷ 7 ∷ []) (Units 3) (0x41 ∷ 0xD800 ∷ 0xDC00 ∷ []) ∷
-    converts fss_utf utf16 (0x41 ∷ 0xF0 ∷ 0x90 ∷ 0x80 ∷ 0x80 ∷ []) (7 ∷ 7 ∷ []) (Refused (refusal BufferTooShort 0)) (7 ∷ 7 ∷ []) ∷
-    converts fss_utf utf16 (0x41 ∷ 0xED ∷ 0xA0 ∷ 0x80 ∷ 0xED ∷ 0xB0 ∷ 0x80 ∷ []) (7 ∷ []) (Refused (refusal Surrogate 1)) (7 ∷ []) ∷
-    converts fss_utf utf16 (0x41 ∷ 0xC0 ∷ 0x80 ∷ 0xED ∷ 0xA0 ∷ 0x80 ∷ []) (7 ∷ []) (Refused (refusal Overlong 1)) (7 ∷ []) ∷
-    converts utf_ebcdic utf16 (0xB3 ∷ 0xDD ∷ 0x80 ∷ 0x80 ∷ 0xC1 ∷ []) (7 ∷ []) (Refused (refusal Surrogate 0)) (7 ∷ []) ∷
-    converts ucs4 utf16 (0xD800 ∷ 0x110000 ∷ []) [] (Refused (refusal Surrogate 0)) [] ∷
-    converts ucs4 utf16 (0x110000 ∷ 0x80000000 ∷ []) [] (Refused (refusal Unrepresentable 0)) [] ∷
-    converts utf16 utf_ebcdic (0x0A ∷ 0x3FFF ∷ []) (7 ∷ 7 ∷ 7 ∷ 7 ∷ []) (Units 4) (0x25 ∷ 0xFB ∷ 0xFE ∷ 0xFE ∷ []) ∷
+    converts fss_utf utf16 [] [] (Ok 0) [] ∷
+    converts fss_utf utf16 (0x41 ∷ 0xF0 ∷ 0x90 ∷ 0x80 ∷ 0x80 ∷ []) (7 ∷ 7 ∷ 7 ∷ 7 ∷ []) (Ok 3) (0x41 ∷ 0xD800 ∷ 0xDC00 ∷ 7 ∷ []) ∷
+    converts fss_utf utf16 (0x41 ∷ 0xF0 ∷ 0x90 ∷ 0x80 ∷ 0x80 ∷ []) (7 ∷ 7 ∷ 7 ∷ []) (Ok 3) (0x41 ∷ 0xD800 ∷ 0xDC00 ∷ []) ∷
+    converts fss_utf utf16 (0x41 ∷ 0xF0 ∷ 0x90 ∷ 0x80 ∷ 0x80 ∷ []) (7 ∷ 7 ∷ []) (Err (refusal BufferTooShort 0)) (7 ∷ 7 ∷ []) ∷
+    converts fss_utf utf16 (0x41 ∷ 0xED ∷ 0xA0 ∷ 0x80 ∷ 0xED ∷ 0xB0 ∷ 0x80 ∷ []) (7 ∷ []) (Err (refusal Surrogate 1)) (7 ∷ []) ∷
+    converts fss_utf utf16 (0x41 ∷ 0xC0 ∷ 0x80 ∷ 0xED ∷ 0xA0 ∷ 0x80 ∷ []) (7 ∷ []) (Err (refusal Overlong 1)) (7 ∷ []) ∷
+    converts utf_ebcdic utf16 (0xB3 ∷ 0xDD ∷ 0x80 ∷ 0x80 ∷ 0xC1 ∷ []) (7 ∷ []) (Err (refusal Surrogate 0)) (7 ∷ []) ∷
+    converts ucs4 utf16 (0xD800 ∷ 0x110000 ∷ []) [] (Err (refusal Surrogate 0)) [] ∷
+    converts ucs4 utf16 (0x110000 ∷ 0x80000000 ∷ []) [] (Err (refusal Unrepresentable 0)) [] ∷
+    converts utf16 utf_ebcdic (0x0A ∷ 0x3FFF ∷ []) (7 ∷ 7 ∷ 7 ∷ 7 ∷ []) (Ok 4) (0x25 ∷ 0xFB ∷ 0xFE ∷ 0xFE ∷ []) ∷
     []
 
 pub conversions_hold : map actual conversions ≡ map expected conversions
 conversions_hold = refl
 
 -- the promise of a measure, and of a converter for its answer and its buffer; the place of a character that the target cannot hold
-pub length_promise : Measures fss_utf utf16 (0x41 ∷ 0xC2 ∷ 0xA9 ∷ []) (Units 2)
+pub length_promise : Measures fss_utf utf16 (0x41 ∷ 0xC2 ∷ 0xA9 ∷ []) (Ok 2)
 length_promise = record { answer = refl; numbers = refl }
 
-pub promise : Converts fss_utf utf16 (0xC2 ∷ 0xA9 ∷ []) (7 ∷ 8 ∷ []) (Units 1) (0xA9 ∷ 8 ∷ [])
+pub promise : Converts fss_utf utf16 (0xC2 ∷ 0xA9 ∷ []) (7 ∷ 8 ∷ []) (Ok 1) (0xA9 ∷ 8 ∷ [])
 promise = record { answer = refl; numbers = refl; cells = refl }
 
-pub short_promise : Converts fss_utf utf16 (0x41 ∷ 0x42 ∷ []) (7 ∷ []) (Refused (refusal BufferTooShort 0)) (7 ∷ [])
+pub short_promise : Converts fss_utf utf16 (0x41 ∷ 0x42 ∷ []) (7 ∷ []) (Err (refusal BufferTooShort 0)) (7 ∷ [])
 short_promise = record { answer = refl; numbers = refl; cells = refl }
 
-pub unheld_promise : Converts fss_utf utf16 (0x41 ∷ 0xF4 ∷ 0x90 ∷ 0x80 ∷ 0x80 ∷ []) (7 ∷ []) (Refused (refusal Unrepresentable 1)) (7 ∷ [])
+pub unheld_promise : Converts fss_utf utf16 (0x41 ∷ 0xF4 ∷ 0x90 ∷ 0x80 ∷ 0x80 ∷ []) (7 ∷ []) (Err (refusal Unrepresentable 1)) (7 ∷ [])
 unheld_promise = record { answer = refl; numbers = refl; cells = refl }
 
 -- its refusal: by what the target excludes, and by 6 where that is nothing
@@ -223,23 +220,23 @@ strict_faults_lem = refl
 pub strict_readings : (items (strictly utf16) (0xDC00 ∷ 0xFFFF ∷ []) ≡ Mark StrayTrailing (span 0 1) ∷ Mark NonCharacter (span 1 1) ∷ []) × ((strictly utf16).longest ≡ 2)
 strict_readings = (refl, refl)
 
-pub refused-length : Measures fss_utf utf16 (0x41 ∷ 0xEF ∷ 0xBF ∷ 0xBF ∷ []) (Refused (refusal NonCharacter 1))
+pub refused-length : Measures fss_utf utf16 (0x41 ∷ 0xEF ∷ 0xBF ∷ 0xBF ∷ []) (Err (refusal NonCharacter 1))
 refused-length = record { answer = refl; numbers = refl }
 
 abbrev pub refused_values : List Example
 refused_values =
-    converts fss_utf utf16 (0xEF ∷ 0xBF ∷ 0xBF ∷ []) (7 ∷ []) (Refused (refusal NonCharacter 0)) (7 ∷ []) ∷
-    converts fss_utf ucs4 (0x41 ∷ 0xEF ∷ 0xBF ∷ 0xBE ∷ []) [] (Refused (refusal NonCharacter 1)) [] ∷
-    converts fss_utf utf16 (0xEF ∷ 0xBF ∷ 0xBD ∷ 0xEF ∷ 0xBB ∷ 0xBF ∷ []) (7 ∷ 7 ∷ []) (Units 2) (0xFFFD ∷ 0xFEFF ∷ []) ∷
-    converts fss_utf utf16 (0xF0 ∷ 0x9F ∷ 0xBF ∷ 0xBE ∷ []) (7 ∷ 7 ∷ []) (Units 2) (0xD83F ∷ 0xDFFE ∷ []) ∷
-    converts fss_utf utf16 (0xED ∷ 0xA0 ∷ 0x80 ∷ 0xEF ∷ 0xBF ∷ 0xBF ∷ []) [] (Refused (refusal Surrogate 0)) [] ∷
-    converts fss_utf utf16 (0xEF ∷ 0xBF ∷ 0xBF ∷ 0xED ∷ 0xA0 ∷ 0x80 ∷ []) [] (Refused (refusal NonCharacter 0)) [] ∷
-    converts fss_utf utf16 (0xF0 ∷ 0x8F ∷ 0xBF ∷ 0xBF ∷ []) [] (Refused (refusal Overlong 0)) [] ∷
-    converts utf_ebcdic fss_utf (0xC1 ∷ 0xB3 ∷ 0xFE ∷ 0xFE ∷ 0xFE ∷ []) (7 ∷ 7 ∷ []) (Refused (refusal NonCharacter 1)) (7 ∷ 7 ∷ []) ∷
-    converts utf_ebcdic utf16 (0xFB ∷ 0xFE ∷ 0xFE ∷ []) (7 ∷ []) (Units 1) (0x3FFF ∷ []) ∷
-    converts utf16 utf_ebcdic (0x41 ∷ 0xFFFE ∷ []) [] (Refused (refusal NonCharacter 1)) [] ∷
-    converts ucs4 utf16 (0x110000 ∷ 0xFFFF ∷ []) [] (Refused (refusal Unrepresentable 0)) [] ∷
-    converts ucs4 utf16 (0xFFFF ∷ 0x110000 ∷ []) [] (Refused (refusal NonCharacter 0)) [] ∷
+    converts fss_utf utf16 (0xEF ∷ 0xBF ∷ 0xBF ∷ []) (7 ∷ []) (Err (refusal NonCharacter 0)) (7 ∷ []) ∷
+    converts fss_utf ucs4 (0x41 ∷ 0xEF ∷ 0xBF ∷ 0xBE ∷ []) [] (Err (refusal NonCharacter 1)) [] ∷
+    converts fss_utf utf16 (0xEF ∷ 0xBF ∷ 0xBD ∷ 0xEF ∷ 0xBB ∷ 0xBF ∷ []) (7 ∷ 7 ∷ []) (Ok 2) (0xFFFD ∷ 0xFEFF ∷ []) ∷
+    converts fss_utf utf16 (0xF0 ∷ 0x9F ∷ 0xBF ∷ 0xBE ∷ []) (7 ∷ 7 ∷ []) (Ok 2) (0xD83F ∷ 0xDFFE ∷ []) ∷
+    converts fss_utf utf16 (0xED ∷ 0xA0 ∷ 0x80 ∷ 0xEF ∷ 0xBF ∷ 0xBF ∷ []) [] (Err (refusal Surrogate 0)) [] ∷
+    converts fss_utf utf16 (0xEF ∷ 0xBF ∷ 0xBF ∷ 0xED ∷ 0xA0 ∷ 0x80 ∷ []) [] (Err (refusal NonCharacter 0)) [] ∷
+    converts fss_utf utf16 (0xF0 ∷ 0x8F ∷ 0xBF ∷ 0xBF ∷ []) [] (Err (refusal Overlong 0)) [] ∷
+    converts utf_ebcdic fss_utf (0xC1 ∷ 0xB3 ∷ 0xFE ∷ 0xFE ∷ 0xFE ∷ []) (7 ∷ 7 ∷ []) (Err (refusal NonCharacter 1)) (7 ∷ 7 ∷ []) ∷
+    converts utf_ebcdic utf16 (0xFB ∷ 0xFE ∷ 0xFE ∷ []) (7 ∷ []) (Ok 1) (0x3FFF ∷ []) ∷
+    converts utf16 utf_ebcdic (0x41 ∷ 0xFFFE ∷ []) [] (Err (refusal NonCharacter 1)) [] ∷
+    converts ucs4 utf16 (0x110000 ∷ 0xFFFF ∷ []) [] (Err (refusal Unrepresentable 0)) [] ∷
+    converts ucs4 utf16 (0xFFFF ∷ 0x110000 ∷ []) [] (Err (refusal NonCharacter 0)) [] ∷
     reads fss_utf (0xEF ∷ 0xBF ∷ 0xBE ∷ 0xEF ∷ 0xBF ∷ 0xBF ∷ []) (Character 0xFFFE (span 0 3) ∷ Character 0xFFFF (span 3 3) ∷ []) ∷
     []
 
@@ -255,14 +252,14 @@ held = record { counted = refl; cells = refl }
 
 -- a promise settles the answer, its numbers, and every cell of the buffer
 pub settled :
-    (F G : Form) (s d o p : List ℕ) (q r : Conversion) → Converts F G s d q o → Converts F G s d r p
+    (F G : Form) (s d o p : List ℕ) (q r : Result ℕ Refusal) → Converts F G s d q o → Converts F G s d r p
     → (q ≡ r) × (conversion_numbers q ≡ conversion_numbers r) × (o ≡ p)
 settled F G s d o p q r a b = (a.answer ∙ sym b.answer, a.numbers ∙ sym b.numbers, a.cells ∙ sym b.cells)
 
-pub length_settled : (F G : Form) (s : List ℕ) (q r : Conversion) → Measures F G s q → Measures F G s r → (q ≡ r) × (conversion_numbers q ≡ conversion_numbers r)
+pub length_settled : (F G : Form) (s : List ℕ) (q r : Result ℕ Refusal) → Measures F G s q → Measures F G s r → (q ≡ r) × (conversion_numbers q ≡ conversion_numbers r)
 length_settled F G s q r a b = (a.answer ∙ sym b.answer, a.numbers ∙ sym b.numbers)
 
-pub found_settled : (F : Form) (s : List ℕ) (p : ℕ) (q r : Found) → FindsItem F s p q → FindsItem F s p r → (q ≡ r) × (found_numbers q ≡ found_numbers r)
+pub found_settled : (F : Form) (s : List ℕ) (p : ℕ) (q r : Result Item Refusal) → FindsItem F s p q → FindsItem F s p r → (q ≡ r) × (found_numbers q ≡ found_numbers r)
 found_settled F s p q r a b = (a.answer ∙ sym b.answer, a.numbers ∙ sym b.numbers)
 
 pub held_settled : (d e o p : List ℕ) (m n : ℕ) → Holds d e m o → Holds d e n p → (m ≡ n) × (o ≡ p)
@@ -325,13 +322,13 @@ abbrev cut : List ℕ
 cut = 0x41 ∷ 0xE2 ∷ 0x89 ∷ 0x42 ∷ []
 
 pub decoded-answers :
-    map (λ n. Lossy.answer_of (lossy fss_utf cut 3 n)) (2 ∷ 3 ∷ 4 ∷ []) ≡ Decoding.Refused (refusal BufferTooShort 0) ∷ Decoded (counts 3 1) ∷ Decoded (counts 3 1) ∷ []
+    map (λ n. Lossy.answer_of (lossy fss_utf cut 3 n)) (2 ∷ 3 ∷ 4 ∷ []) ≡ Err (refusal BufferTooShort 0) ∷ Ok (counts 3 1) ∷ Ok (counts 3 1) ∷ []
 decoded-answers = refl
 
 pub counted : ((counts 3 1).items ≡ 3) × ((counts 3 1).marks ≡ 1)
 counted = (refl, refl)
 
-pub decoded-short : Lossy.answer_of (lossy fss_utf cut 2 3) ≡ Decoding.Refused (refusal BufferTooShort 0)
+pub decoded-short : Lossy.answer_of (lossy fss_utf cut 2 3) ≡ Err (refusal BufferTooShort 0)
 decoded-short = refl
 
 pub decoded-values : values_in (lossy fss_utf cut 5 5) (1 ∷ 2 ∷ 3 ∷ 4 ∷ 5 ∷ []) ≡ 0x41 ∷ 0xFFFFFFFF ∷ 0x42 ∷ 4 ∷ 5 ∷ []
@@ -346,18 +343,18 @@ decoded-starts = refl
 pub refused_buffers : values_in (lossy fss_utf cut 2 3) (7 ∷ 8 ∷ []) ++ starts_in (lossy fss_utf cut 2 3) (7 ∷ 8 ∷ 9 ∷ []) ≡ 7 ∷ 8 ∷ 7 ∷ 8 ∷ 9 ∷ []
 refused_buffers = refl
 
-pub decoded-over : (F : Form) (s : List ℕ) (m n : ℕ) → 65537 ≤ length s → Lossy.answer_of (lossy F s m n) ≡ Decoding.Refused (refusal SourceTooLong 0)
+pub decoded-over : (F : Form) (s : List ℕ) (m n : ℕ) → 65537 ≤ length s → Lossy.answer_of (lossy F s m n) ≡ Err (refusal SourceTooLong 0)
 decoded-over F s m n h = rw (lt-ltb limit (length s) h)
 
 -- the numbers of each case of an answer: of a result, and of a refusal
 pub named_numbers : ((numbers 5 7 (counts 3 1)).fault ≡ 5) × ((numbers 5 7 (counts 3 1)).offset ≡ 7) × ((numbers 5 7 (counts 3 1)).values ≡ counts 3 1)
 named_numbers = (refl, refl, refl)
 
-pub conversion_numbers_lem : map conversion_numbers (Units 3 ∷ Refused (refusal Overlong 7) ∷ []) ≡ numbers 0 0 3 ∷ numbers 5 7 0 ∷ []
+pub conversion_numbers_lem : map conversion_numbers (Ok 3 ∷ Err (refusal Overlong 7) ∷ []) ≡ numbers 0 0 3 ∷ numbers 5 7 0 ∷ []
 conversion_numbers_lem = refl
 
 pub decoding-numbers :
-    map decoding_numbers (Decoded (counts 3 1) ∷ Decoding.Refused (refusal BufferTooShort 0) ∷ []) ≡ numbers 0 0 (counts 3 1) ∷ numbers 7 0 (counts 0 0) ∷ []
+    map decoding_numbers (Ok (counts 3 1) ∷ Err (refusal BufferTooShort 0) ∷ []) ≡ numbers 0 0 (counts 3 1) ∷ numbers 7 0 (counts 0 0) ∷ []
 decoding-numbers = refl
 
 pub decoded-numbers :
@@ -369,7 +366,7 @@ pub item-numbers :
 item-numbers = refl
 
 pub found-numbers :
-    map found_numbers (Found.Covered (Character 0xA9 (span 1 2)) ∷ Found.Covered (Mark MissingTrailing (span 4 2)) ∷ Found.Refused (refusal OffsetOutOfRange 7) ∷ [])
+    map found_numbers (Ok (Character 0xA9 (span 1 2)) ∷ Ok (Mark MissingTrailing (span 4 2)) ∷ Err (refusal OffsetOutOfRange 7) ∷ [])
     ≡ numbers 0 1 (item_values 0xA9 2) ∷ numbers 2 4 (item_values 0 2) ∷ numbers 9 7 (item_values 0 0) ∷ []
 found-numbers = refl
 
@@ -386,27 +383,27 @@ no_surrogate_behind a = a.1.0 refl
 -- the item that covers each offset of the listing, and 9 with the offset from its end on; a pair behind a high unit
 pub listed_items-covering :
     map (item_covering fss_utf listing) (0 ∷ 1 ∷ 2 ∷ 3 ∷ 4 ∷ 5 ∷ 6 ∷ 7 ∷ 8 ∷ [])
-    ≡ Found.Covered (Character 0x41 (span 0 1)) ∷
-    Found.Covered (Character 0xA9 (span 1 2)) ∷
-    Found.Covered (Character 0xA9 (span 1 2)) ∷
-    Found.Covered (Mark StrayTrailing (span 3 1)) ∷
-    Found.Covered (Mark MissingTrailing (span 4 2)) ∷
-    Found.Covered (Mark MissingTrailing (span 4 2)) ∷
-    Found.Covered (Character 0x0A (span 6 1)) ∷
-    Found.Refused (refusal OffsetOutOfRange 7) ∷
-    Found.Refused (refusal OffsetOutOfRange 8) ∷
+    ≡ Ok (Character 0x41 (span 0 1)) ∷
+    Ok (Character 0xA9 (span 1 2)) ∷
+    Ok (Character 0xA9 (span 1 2)) ∷
+    Ok (Mark StrayTrailing (span 3 1)) ∷
+    Ok (Mark MissingTrailing (span 4 2)) ∷
+    Ok (Mark MissingTrailing (span 4 2)) ∷
+    Ok (Character 0x0A (span 6 1)) ∷
+    Err (refusal OffsetOutOfRange 7) ∷
+    Err (refusal OffsetOutOfRange 8) ∷
     []
 listed_items-covering = refl
 
 pub pair_covering :
     map (item_covering utf16 (0xD800 ∷ 0xD800 ∷ 0xDC00 ∷ [])) (0 ∷ 1 ∷ 2 ∷ [])
-    ≡ Found.Covered (Mark MissingTrailing (span 0 1)) ∷ Found.Covered (Character 0x10000 (span 1 2)) ∷ Found.Covered (Character 0x10000 (span 1 2)) ∷ []
+    ≡ Ok (Mark MissingTrailing (span 0 1)) ∷ Ok (Character 0x10000 (span 1 2)) ∷ Ok (Character 0x10000 (span 1 2)) ∷ []
 pair_covering = refl
 
-pub found_promise : FindsItem fss_utf listing 5 (Found.Covered (Mark MissingTrailing (span 4 2)))
+pub found_promise : FindsItem fss_utf listing 5 (Ok (Mark MissingTrailing (span 4 2)))
 found_promise = record { answer = refl; numbers = refl }
 
-pub beyond_promise : FindsItem fss_utf listing 7 (Found.Refused (refusal OffsetOutOfRange 7))
+pub beyond_promise : FindsItem fss_utf listing 7 (Err (refusal OffsetOutOfRange 7))
 beyond_promise = record { answer = refl; numbers = refl }
 
 -- the item itself, and the offset behind it
@@ -420,8 +417,8 @@ item-end = refl
 pub found-at_the_limit : (F : Form) (s : List ℕ) (p : ℕ) → length s ≤ 65536 → item_covering F s p ≡ or_beyond p (covering (items F s) p)
 found-at_the_limit F s p h = rw (le-ltb limit (length s) h)
 
-pub found_above_the_limit : (F : Form) (s : List ℕ) (p : ℕ) → 65537 ≤ length s → item_covering F s p ≡ Found.Refused (refusal SourceTooLong 0)
+pub found_above_the_limit : (F : Form) (s : List ℕ) (p : ℕ) → 65537 ≤ length s → item_covering F s p ≡ Err (refusal SourceTooLong 0)
 found_above_the_limit F s p h = rw (lt-ltb limit (length s) h)
 
-pub found-numbers_above_the_limit : (F : Form) (s : List ℕ) (p : ℕ) → 65537 ≤ length s → numbers_at F s p ≡ found_numbers (Found.Refused (refusal SourceTooLong 0))
+pub found-numbers_above_the_limit : (F : Form) (s : List ℕ) (p : ℕ) → 65537 ≤ length s → numbers_at F s p ≡ found_numbers (Err (refusal SourceTooLong 0))
 found-numbers_above_the_limit F s p h = rw (lt-ltb limit (length s) h)

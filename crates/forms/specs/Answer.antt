@@ -1,15 +1,9 @@
 -- "Where an answer is an enum, a definition tells you this paper's number and values for each of its cases. The promises use that definition."
-use Rattle.std.specs.Prelude.{ℕ}
+use Rattle.std.specs.Prelude.{ℕ, Result, Ok, Err}
 use Rattle.types.specs.declared.Item.{Item}
 use Rattle.types.specs.declared.Item.TheVariants.{Character, Mark}
 use Rattle.types.specs.declared.Refusal.{Refusal}
 use Rattle.types.specs.declared.Counts.{Counts}
-use Rattle.types.specs.declared.Conversion.{Conversion}
-use Rattle.types.specs.declared.Conversion.TheVariants.{Units, Refused as NoUnits}
-use Rattle.types.specs.declared.Decoding.{Decoding}
-use Rattle.types.specs.declared.Decoding.TheVariants.{Decoded, Refused as NotDecoded}
-use Rattle.types.specs.declared.Found.{Found}
-use Rattle.types.specs.declared.Found.TheVariants.{Covered, Refused as NotFound}
 use Rattle.forms.specs.Fault.{number_of}
 
 -- an answer in numbers: that of its fault, 0 for none; a place; and the values that the call returns
@@ -30,14 +24,14 @@ abbrev pub refused_by : {A : Type 0} → A → Refusal → Numbers A
 refused_by zeros r = numbers (number_of r.fault) r.offset zeros
 
 -- strict conversion and its measure: the units written or needed
-abbrev pub conversion_numbers : Conversion → Numbers ℕ
-conversion_numbers (Units n) = returned n
-conversion_numbers (NoUnits r) = refused_by 0 r
+abbrev pub conversion_numbers : Result ℕ Refusal → Numbers ℕ
+conversion_numbers (Ok n) = returned n
+conversion_numbers (Err r) = refused_by 0 r
 
 -- lossy decoding: the number of items, and of marks
-abbrev pub decoding_numbers : Decoding → Numbers Counts
-decoding_numbers (Decoded c) = returned c
-decoding_numbers (NotDecoded r) = refused_by (record { items = 0; marks = 0 }) r
+abbrev pub decoding_numbers : Result Counts Refusal → Numbers Counts
+decoding_numbers (Ok c) = returned c
+decoding_numbers (Err r) = refused_by (record { items = 0; marks = 0 }) r
 
 -- an item: the value of a character, and how many code units it has
 pub record ItemValues : Type 0 where
@@ -53,6 +47,6 @@ item_numbers (Character v p) = numbers 0 p.offset (item_values v p.length)
 item_numbers (Mark f p) = numbers (number_of f) p.offset (item_values 0 p.length)
 
 -- the finder: the item
-abbrev pub found_numbers : Found → Numbers ItemValues
-found_numbers (Covered i) = item_numbers i
-found_numbers (NotFound r) = refused_by (item_values 0 0) r
+abbrev pub found_numbers : Result Item Refusal → Numbers ItemValues
+found_numbers (Ok i) = item_numbers i
+found_numbers (Err r) = refused_by (item_values 0 0) r

@@ -1,13 +1,11 @@
 -- Strict conversion of a text to another form: document 01, "Fault numbers", and request 110.
-use Rattle.std.specs.Prelude.{ℕ, ◌≡◌, cond, List, [], ◌∷◌, ◌++◌, length, drop, ltb}
+use Rattle.std.specs.Prelude.{ℕ, ◌≡◌, cond, List, [], ◌∷◌, ◌++◌, length, drop, ltb, Result, Ok, Err}
 use Rattle.std.proofs.Math.Option.{Option, none, some}
 use Rattle.types.specs.declared.Fault.{Fault}
 use Rattle.types.specs.declared.Fault.TheVariants.{SourceTooLong, Unrepresentable, BufferTooShort}
 use Rattle.types.specs.declared.Item.{Item}
 use Rattle.types.specs.declared.Item.TheVariants.{Character, Mark}
 use Rattle.types.specs.declared.Refusal.{Refusal}
-use Rattle.types.specs.declared.Conversion.{Conversion}
-use Rattle.types.specs.declared.Conversion.TheVariants.{Units, Refused}
 use Rattle.forms.specs.Fault.{limit, refusal}
 use Rattle.forms.specs.Answer.{Numbers, returned, refused_by, conversion_numbers}
 use Rattle.forms.specs.Form.{Form, items, encode}
@@ -60,9 +58,9 @@ abbrev pub strict : Form → Form → List ℕ → ℕ → Outcome
 strict F G s n = in_room n (outcome F G s)
 
 -- what a call answers
-abbrev pub answer_of : Outcome → Conversion
-answer_of (converted es) = Units (length es)
-answer_of (refused r) = Refused r
+abbrev pub answer_of : Outcome → Result ℕ Refusal
+answer_of (converted es) = Ok (length es)
+answer_of (refused r) = Err r
 
 -- and the numbers of that answer: the units of the result, or the refusal's number, its place and zero units
 abbrev pub outcome_numbers : Outcome → Numbers ℕ
@@ -75,12 +73,12 @@ cells_of (converted es) d = es ++ drop (length es) d
 cells_of (refused r) d = d
 
 -- what a measure promises: its answer r, and the numbers of it
-pub record Measures (F G : Form) (s : List ℕ) (r : Conversion) : Type 0 where
+pub record Measures (F G : Form) (s : List ℕ) (r : Result ℕ Refusal) : Type 0 where
   pub answer : r ≡ answer_of (outcome F G s)
   pub numbers : conversion_numbers r ≡ outcome_numbers (outcome F G s)
 
 -- what a converter promises: its answer r, the numbers of it, and that the result buffer d became o
-pub record Converts (F G : Form) (s d : List ℕ) (r : Conversion) (o : List ℕ) : Type 0 where
+pub record Converts (F G : Form) (s d : List ℕ) (r : Result ℕ Refusal) (o : List ℕ) : Type 0 where
   pub answer : r ≡ answer_of (strict F G s (length d))
   pub numbers : conversion_numbers r ≡ outcome_numbers (strict F G s (length d))
   pub cells : o ≡ cells_of (strict F G s (length d)) d

@@ -1,12 +1,10 @@
 -- Document 01's mended reading of a text: lossy decoding.
-use Rattle.std.specs.Prelude.{ℕ, ◌+◌, cond, ◌||◌, List, [], ◌∷◌, ◌++◌, map, length, drop, ltb}
+use Rattle.std.specs.Prelude.{ℕ, ◌+◌, cond, ◌||◌, List, [], ◌∷◌, ◌++◌, map, length, drop, ltb, Result, Ok, Err}
 use Rattle.types.specs.declared.Fault.TheVariants.{SourceTooLong, BufferTooShort}
 use Rattle.types.specs.declared.Item.{Item}
 use Rattle.types.specs.declared.Item.TheVariants.{Character, Mark}
 use Rattle.types.specs.declared.Refusal.{Refusal}
 use Rattle.types.specs.declared.Counts.{Counts}
-use Rattle.types.specs.declared.Decoding.{Decoding}
-use Rattle.types.specs.declared.Decoding.TheVariants.{Decoded, Refused}
 use Rattle.forms.specs.Fault.{limit, refusal}
 use Rattle.forms.specs.Answer.{Numbers, returned, refused_by}
 use Rattle.forms.specs.Form.{Form, span_of, items}
@@ -44,9 +42,9 @@ lossy F s m n =
 abbrev pub counts : ℕ → ℕ → Counts
 counts n m = record { items = n; marks = m }
 
-abbrev pub answer_of : Outcome → Decoding
-answer_of (decoded is) = Decoded (counts (length is) (marks is))
-answer_of (refused r) = Refused r
+abbrev pub answer_of : Outcome → Result Counts Refusal
+answer_of (decoded is) = Ok (counts (length is) (marks is))
+answer_of (refused r) = Err r
 
 -- the numbers of that answer: how many items and marks there are, or the refusal's number, its place and zero for both
 abbrev pub outcome_numbers : Outcome → Numbers Counts

@@ -14,7 +14,6 @@ use lib.Seq.{drop-cons}
 use Rattle.types.specs.declared.Fault.TheVariants.{SourceTooLong, OffsetOutOfRange}
 use Rattle.types.specs.declared.Refusal.{Refusal}
 use Rattle.types.specs.declared.Item.{Item}
-use Rattle.types.specs.declared.Found.TheVariants.{Covered, Refused}
 use Rattle.forms.specs.Fault.{limit, refusal}
 use Rattle.forms.specs.Form.{sequence, size, Form, asked, taken, first_of, sequences, Content, character, mark, content, span, with_span, span_of, item_of, items}
 use Rattle.forms.specs.Forms.{fss_utf, utf_ebcdic, utf16, ucs4}
@@ -27,6 +26,7 @@ use Rattle.laws.proofs.FourForms.{fss_utf_laws, utf_ebcdic_laws, utf16_laws, ucs
 use Rattle.laws.proofs.Items.{items_onward, sequence_at, items-end, items_step, offset_at}
 use Rattle.laws.proofs.Distances.{distance_back, distance_take, distance_near}
 use Rattle.laws.proofs.Starts.{FoundBack, found, none-beyond, only_in}
+use Rattle.std.specs.Prelude.{Ok, Err}
 
 -- reading at the start of an item of a text gives it
 module _ (F : Form) (s : List ℕ) where
@@ -55,27 +55,27 @@ module _ (F : Form) (s : List ℕ) where
 
 -- the answers: 1, 9, or the item
 module _ (F : Form) (s : List ℕ) (p : ℕ) where
-  pub found-over : limit < length s → item_covering F s p ≡ Refused (refusal SourceTooLong 0)
+  pub found-over : limit < length s → item_covering F s p ≡ Err (refusal SourceTooLong 0)
   found-over h = rw (lt-ltb limit (length s) h)
 
   module _ (w : length s ≤ limit) where
-    pub found-beyond : length s ≤ p → item_covering F s p ≡ Refused (refusal OffsetOutOfRange p)
+    pub found-beyond : length s ≤ p → item_covering F s p ≡ Err (refusal OffsetOutOfRange p)
     found-beyond h = rw (le-ltb limit (length s) w, none-beyond F s p h)
 
-    pub found_inside : (i : Item) → covering (items F s) p ≡ some i → item_covering F s p ≡ Covered i
+    pub found_inside : (i : Item) → covering (items F s) p ≡ some i → item_covering F s p ≡ Ok i
     found_inside i e = rw (le-ltb limit (length s) w, e)
 
   module _ {r : Refusal} where
-    pub too_long : r ≡ refusal SourceTooLong 0 → limit < length s → Refused r ≡ item_covering F s p
-    too_long e h = ap Refused e ∙ sym (found-over h)
+    pub too_long : r ≡ refusal SourceTooLong 0 → limit < length s → Err r ≡ item_covering F s p
+    too_long e h = ap Err e ∙ sym (found-over h)
 
-    pub out_of_range : r ≡ refusal OffsetOutOfRange p → length s ≤ limit → length s ≤ p → Refused r ≡ item_covering F s p
-    out_of_range e w h = ap Refused e ∙ sym (found-beyond w h)
+    pub out_of_range : r ≡ refusal OffsetOutOfRange p → length s ≤ limit → length s ≤ p → Err r ≡ item_covering F s p
+    out_of_range e w h = ap Err e ∙ sym (found-beyond w h)
 
 -- the item read as far back as the nearest units tell is the answer
 pub record Near (F : Form) (s : List ℕ) (p d : ℕ) : Type 0 where
   pub back : d ≤ p
-  pub answer : (i : Item) → i ≡ item_of F (p - d) (sequence_at F s (p - d)) → Covered i ≡ item_covering F s p
+  pub answer : (i : Item) → i ≡ item_of F (p - d) (sequence_at F s (p - d)) → Ok i ≡ item_covering F s p
 
 pub near : (F : Form) → Laws F → (s : List ℕ) (p d : ℕ) → length s ≤ limit → p < length s → d ≡ distance_back F 0 (nearest F.longest (suc p) s) → Near F s p d
 near F laws s p d w h e =
@@ -87,7 +87,7 @@ near F laws s p d w h e =
       answer =
           λ i a.
           let b : i ≡ f.item = a ∙ ap (λ (n : ℕ). item_of F n (sequence_at F s n)) (sym o) ∙ sym (covers-read F s p f.item f.covers) in
-          ap Covered b ∙ sym (found_inside F s p w f.item f.named);
+          ap Ok b ∙ sym (found_inside F s p w f.item f.named);
     }
 
 same_item : (o : Option Item) (i j : Item) → o ≡ some i → o ≡ some j → i ≡ j
@@ -96,7 +96,7 @@ same_item o i j e f = cc
 not_none : (o : Option Item) (i : Item) → o ≡ some i → o ≡ none → ⊥
 not_none o i e f = let z : ◌≡◌ {A = ℕ} 0 1 = cc in omega arith
 
-answered : (b : Bool) (p : ℕ) (i : Item) (o : Option Item) → cond b (Refused (refusal SourceTooLong 0)) (or_beyond p o) ≡ Covered i → o ≡ some i
+answered : (b : Bool) (p : ℕ) (i : Item) (o : Option Item) → cond b (Err (refusal SourceTooLong 0)) (or_beyond p o) ≡ Ok i → o ≡ some i
 answered true p i o e = absurd (let z : ◌≡◌ {A = ℕ} 0 1 = cc in omega arith)
 answered false p i none e = absurd (let z : ◌≡◌ {A = ℕ} 0 1 = cc in omega arith)
 answered false p i (some j) e = cc

@@ -11,7 +11,6 @@ use lib.Dec.{leb}
 use borrow.Author.Tests.{leb-true}
 use lib.ListN.{length, length-append, length-map}
 use Rattle.types.specs.declared.Fault.{Fault}
-use Rattle.types.specs.declared.Conversion.TheVariants.{Units}
 use Rattle.forms.specs.Form.{Form, unless, encode, encode_all, AllEncodable}
 use Rattle.forms.specs.Layout.{Layout, row_limit, lowest_of, form_of}
 use Rattle.forms.specs.Exchange.{i8_of, ebcdic_of}
@@ -26,6 +25,7 @@ use Rattle.laws.proofs.FourForms.{fss_utf_fits, i8_fits, utf16_fits, ucs4_fits}
 use Rattle.laws.proofs.Narrowed.{wide_encodable}
 use Rattle.laws.proofs.Characters.{accepted}
 use Rattle.laws.proofs.Answers.{within-items, measured_too}
+use Rattle.std.specs.Prelude.{Ok}
 
 -- the values that a form writes with so many units lie in that row of its layout
 pub record Written (F : Form) (L : Layout) (v : ℕ) : Type 0 where
@@ -130,7 +130,7 @@ module _ (F G : Form) (source : Laws F) (L M : Layout) (reads : Writes F L) (wri
       same s es vs p q h = rw (p, q) h
 
   module _ (most : ℕ → ℕ) (is : (m n : ℕ) → m * b ≤ a * n → m ≤ most n) where
-    units_of : (s : List ℕ) (n : ℕ) (o : Outcome) → outcome F G s ≡ o → answer_of o ≡ Units n → n ≤ most (length s)
+    units_of : (s : List ℕ) (n : ℕ) (o : Outcome) → outcome F G s ≡ o → answer_of o ≡ Ok n → n ≤ most (length s)
     units_of s n (converted es) e h = let q : n ≡ length es = cc in rw q (is (length es) (length s) (bounded s es e))
     units_of s n (refused r) e h = absurd (let z : ◌≡◌ {A = ℕ} 0 1 = cc in omega arith)
 

@@ -11,8 +11,6 @@ use Rattle.types.specs.declared.Fault.TheVariants.{BufferTooShort}
 use Rattle.types.specs.declared.Span.{Span}
 use Rattle.types.specs.declared.Item.TheVariants.{Character, Mark}
 use Rattle.types.specs.declared.Refusal.{Refusal}
-use Rattle.types.specs.declared.Conversion.{Conversion}
-use Rattle.types.specs.declared.Conversion.TheVariants.{Units, Refused}
 use Rattle.forms.specs.Fault.{refusal}
 use Rattle.forms.specs.Form.{Form, items, encode}
 use Rattle.forms.specs.Forms.{turned_away}
@@ -26,6 +24,7 @@ use Rattle.laws.proofs.Buffers.{holds_none, holds_more, length_with, with_none}
 use Rattle.laws.proofs.Items.{items_onward}
 use Rattle.laws.proofs.Runs.{Convertible, Wrote, progress_run, convertible_run}
 use Rattle.laws.proofs.Progress.{CharacterAt, MarkAt, Progress, progress_begin, progress_end, progress_more, progress_next}
+use Rattle.std.specs.Prelude.{Result, Ok, Err}
 
 -- the items before `at` were written, and the whole comes to a result for which there is room. The measure looked for FFFE and FFFF: the loop
 -- writes in the form itself, where the result is the same
@@ -41,27 +40,27 @@ pub record Writing (F G : Form) (s d : List ℕ) (at written : ℕ) (o : List �
 
 module _ {F G : Form} {s d : List ℕ} where
   -- what a converter promises, from the outcome and the room
-  converts-short : (es : List ℕ) → outcome F G s ≡ converted es → length d < length es → Converts F G s d (Refused (refusal BufferTooShort 0)) d
+  converts-short : (es : List ℕ) → outcome F G s ≡ converted es → length d < length es → Converts F G s d (Err (refusal BufferTooShort 0)) d
   converts-short es e h = converts (rw (e, lt-ltb (length d) (length es) h)) (rw (e, lt-ltb (length d) (length es) h))
 
-  converts-all : (es o : List ℕ) (n : ℕ) → outcome F G s ≡ converted es → length es ≤ length d → Holds d es n o → Converts F G s d (Units n) o
+  converts-all : (es o : List ℕ) (n : ℕ) → outcome F G s ≡ converted es → length es ≤ length d → Holds d es n o → Converts F G s d (Ok n) o
   converts-all es o n e h w =
-      converts (rw (e, le-ltb (length d) (length es) h) (ap Units w.counted))
+      converts (rw (e, le-ltb (length d) (length es) h) (ap Ok w.counted))
       (rw (e, le-ltb (length d) (length es) h) (w.cells ∙ ap (λ (m : ℕ). es ++ drop m d) w.counted))
 
-  module _ {r : Conversion} where
-    pub writing-refused : {q : Refusal} → Measures F G s r → r ≡ Refused q → Converts F G s d r d
+  module _ {r : Result ℕ Refusal} where
+    pub writing-refused : {q : Refusal} → Measures F G s r → r ≡ Err q → Converts F G s d r d
     writing-refused {q} m e =
         let x : outcome F G s ≡ refused q = answer-refused (outcome F G s) q (sym m.answer ∙ e) in
         converts (e ∙ rw x) (rw x)
 
     module _ {n : ℕ} where
-      pub writing-short : {q : Refusal} → Measures F G s r → r ≡ Units n → q ≡ refusal BufferTooShort 0 → length d < n → Converts F G s d (Refused q) d
+      pub writing-short : {q : Refusal} → Measures F G s r → r ≡ Ok n → q ≡ refusal BufferTooShort 0 → length d < n → Converts F G s d (Err q) d
       writing-short m e z h =
           let u = answer-units (outcome F G s) n (sym m.answer ∙ e) in
           rw z (converts-short u.0 u.1 (omega (arith, u.2)))
 
-      pub writing_begin : Measures F G s r → r ≡ Units n → n ≤ length d → Writing F G s d 0 0 d
+      pub writing_begin : Measures F G s r → r ≡ Ok n → n ≤ length d → Writing F G s d 0 0 d
       writing_begin m e h =
           let u = answer-units (outcome F G s) n (sym m.answer ∙ e) in
           record {
@@ -76,7 +75,7 @@ module _ {F G : Form} {s d : List ℕ} where
           }
 
   module _ {p written : ℕ} {o : List ℕ} where
-    pub writing-end : Writing F G s d p written o → length s ≤ p → Converts F G s d (Units written) o
+    pub writing-end : Writing F G s d p written o → length s ≤ p → Converts F G s d (Ok written) o
     writing-end w h =
         let e = progress_end F G s p w.done w.progress h in
         let z : w.result ≡ w.done = converted-same (sym w.wide ∙ e) in

@@ -1,9 +1,8 @@
 -- What a caller of a finder has: document 01, "Items", and request 103.
-use Rattle.std.specs.Prelude.{ℕ, zero, suc, ◌-◌, ◌≤◌, ◌<◌, ◌≡◌, ◌↔◌, List, [], ◌∷◌, ◌++◌, length, get_or, take, drop}
+use Rattle.std.specs.Prelude.{ℕ, zero, suc, ◌-◌, ◌≤◌, ◌<◌, ◌≡◌, ◌↔◌, List, [], ◌∷◌, ◌++◌, length, get_or, take, drop, Ok}
 use Rattle.std.proofs.Math.Option.{none, some}
 use Rattle.types.specs.declared.Item.{Item}
 use Rattle.types.specs.declared.Item.TheVariants.{Character, Mark}
-use Rattle.types.specs.declared.Found.TheVariants.{Covered}
 use Rattle.forms.specs.Form.{Form, first_of, span, span_of, item_of, items}
 use Rattle.forms.specs.Finder.{end_of, covering, item_covering}
 
@@ -45,7 +44,7 @@ pub record Finds (F : Form) : Type 0 where
   pub beyond : (s : List ℕ) (p : ℕ) → (covering (items F s) p ≡ none) ↔ (length s ≤ p)
   pub covers : (s : List ℕ) (p : ℕ) (i : Item) → (covering (items F s) p ≡ some i) ↔ Covers (items F s) p i
   -- an item that is answered is that one
-  pub answer : (s : List ℕ) (p : ℕ) (i : Item) → item_covering F s p ≡ Covered i → covering (items F s) p ≡ some i
+  pub answer : (s : List ℕ) (p : ℕ) (i : Item) → item_covering F s p ≡ Ok i → covering (items F s) p ≡ some i
   -- "It must agree with the reading of the whole text": reading at its start gives it, and each of its offsets does
   pub read :
       (s : List ℕ) (p : ℕ) (i : Item) → covering (items F s) p ≡ some i

@@ -1,7 +1,6 @@
 -- What a caller of the converter and of the measure of each pair of forms has besides their contracts.
-use Rattle.std.specs.Prelude.{ℕ, ◌≤◌, ◌<◌, ◌≡◌, ◌≢◌, ◌⊎◌, List, [], length, take}
+use Rattle.std.specs.Prelude.{ℕ, ◌≤◌, ◌<◌, ◌≡◌, ◌≢◌, ◌⊎◌, List, [], length, take, Ok}
 use Rattle.types.specs.declared.Fault.TheVariants.{Unrepresentable, NonCharacter}
-use Rattle.types.specs.declared.Conversion.TheVariants.{Units}
 use Rattle.forms.specs.Fault.{limit}
 use Rattle.forms.specs.Form.{Form, encode, encode_all, AllEncodable}
 use Rattle.forms.specs.Forms.{strictly}
@@ -24,7 +23,7 @@ pub record Pair (F G : Form) (most : ℕ → ℕ) : Type 0 where
   pub answers : (s : List ℕ) (n : ℕ) → Exact F G s n
   pub lengths : (s : List ℕ) → ExactLength F G s
   -- what is read are legal encodings, and what is written the legal encodings of the same values
-  pub characters : (s d : List ℕ) (n : ℕ) (o : List ℕ) → Converts F G s d (Units n) o → Accepted F G s (take n o)
+  pub characters : (s d : List ℕ) (n : ℕ) (o : List ℕ) → Converts F G s d (Ok n) o → Accepted F G s (take n o)
   -- and every text of such values is accepted
   pub accepts : (vs : List ℕ) → AllEncodable F vs → AllEncodable (strictly G) vs → length (encode_all F vs) ≤ limit → outcome F G (encode_all F vs) ≡ converted (encode_all G vs)
   -- the fault of a character that is not written: 12, of FFFE and FFFF (request 110), or 6, which "is left with values above 10FFFF" (request
