@@ -16,21 +16,23 @@ use Rattle.laws.proofs.Sequences.{taken-most}
 use Rattle.laws.proofs.LayoutLaws.{InRow}
 use Rattle.laws.proofs.AscendingRows.{row_of}
 use Rattle.laws.proofs.Reading.{reads_trailing, reads_invalid, reads_missing, reads_overlong, reads_excluded, reads_character}
-use Rattle.tables.specs.ByteForms.{byte_form, layout_of, plain_of, role_number}
+use Rattle.tables.specs.ByteForms.{byte_form, layout_of, plain_of, role_seen}
 use Rattle.tables.specs.declared.ByteForm.{ByteForm}
+use Rattle.tables.specs.declared.ByteRole.{ByteRole}
+use Rattle.tables.specs.declared.ByteRole.TheVariants.{Lead, Trailing, Invalid}
 use Rattle.items.specs.ItemAt.{item_at}
 use Rattle.items.specs.Tail.{TailIs}
 use Rattle.tables.proofs.ByteLayouts.{passes, fits, rise, layout_excludes}
 use Rattle.items.proofs.Plain.{plain_text, item_plain, role-trailing, role-invalid, role-lead, lead_in_row}
 
-module _ (f : ByteForm) (s : List ℕ) (p n : ℕ) (e : n ≡ role_number ((byte_form f).role (get_or s p 0))) where
-  pub trailing-alone : n ≡ 9 → Mark StrayTrailing (span p 1) ≡ item_at (byte_form f) s p
-  trailing-alone q = reads_trailing (byte_form f) p (get_or s p 0) (drop (p + 1) s) (role-trailing f (get_or s p 0) n e q)
+module _ (f : ByteForm) (s : List ℕ) (p : ℕ) (r : ByteRole) (e : r ≡ role_seen ((byte_form f).role (get_or s p 0))) where
+  pub trailing-alone : r ≡ Trailing → Mark StrayTrailing (span p 1) ≡ item_at (byte_form f) s p
+  trailing-alone q = reads_trailing (byte_form f) p (get_or s p 0) (drop (p + 1) s) (role-trailing f (get_or s p 0) r e q)
 
-  pub invalid-alone : n ≡ 0 → Mark InvalidUnit (span p 1) ≡ item_at (byte_form f) s p
-  invalid-alone q = reads_invalid (byte_form f) p (get_or s p 0) (drop (p + 1) s) (role-invalid f (get_or s p 0) n e q)
+  pub invalid-alone : r ≡ Invalid → Mark InvalidUnit (span p 1) ≡ item_at (byte_form f) s p
+  invalid-alone q = reads_invalid (byte_form f) p (get_or s p 0) (drop (p + 1) s) (role-invalid f (get_or s p 0) r e q)
 
-  module _ (t : n ≡ 9 → ⊥) (z : n ≡ 0 → ⊥) where
+  module _ (n : ℕ) (led : r ≡ Lead n) where
     abbrev L : Layout
     L = layout_of f
 
@@ -44,10 +46,10 @@ module _ (f : ByteForm) (s : List ℕ) (p n : ℕ) (e : n ≡ role_number ((byte
     us = drop (p + 1) (plain_text f s)
 
     leads : role_of L u ≡ lead k
-    leads = role-lead f (get_or s p 0) n e t z
+    leads = role-lead f (get_or s p 0) r e n led
 
     pub in_row : InRow (layout_of f) (fits f) (plain_of f (get_or s p 0)) (n - 1)
-    in_row = lead_in_row f (get_or s p 0) n e t z
+    in_row = lead_in_row f (get_or s p 0) r e n led
 
     origin : (row_at L k).origin ≡ 0
     origin = (row_of L (passes f) k in_row.inside).zeroed

@@ -1,9 +1,8 @@
 -- A text of a byte form, each byte as the byte of the layout that it stands for: it reads alike.
-use Prim.Native.Nat.{ℕ, zero, suc, ◌+◌, ◌-◌, ◌<◌}
+use Prim.Native.Nat.{ℕ, zero, suc, ◌+◌, ◌-◌}
 use mathlib.Core.Path.{◌≡◌, refl, sym, ap, ◌∙◌}
 use mathlib.Core.Bool.{false}
 use mathlib.Core.List.{List, [], ◌∷◌, map, map-id}
-use native.Mathlib.Omega.{arith}
 use lib.ListN.{length, get_or, drop, length-map, get_or-map}
 use Rattle.forms.specs.Form.{Role, lead, trailing, invalid, is_trailing, first_of, item_of}
 use Rattle.forms.specs.Layout.{role_of, form_of}
@@ -11,10 +10,12 @@ use Rattle.forms.specs.Exchange.{i8_of, ebcdic_of}
 use Rattle.forms.specs.Forms.{i8, utf_ebcdic}
 use Rattle.laws.proofs.LayoutLaws.{InRow, in_row}
 use Rattle.laws.proofs.Exchanged.{item-exchanged, first-exchanged}
-use Rattle.tables.specs.ByteForms.{byte_form, layout_of, plain_of, role_number}
+use Rattle.tables.specs.ByteForms.{byte_form, layout_of, plain_of, role_seen}
 use Rattle.tables.specs.declared.ByteForm.{ByteForm}
+use Rattle.tables.specs.declared.ByteRole.{ByteRole}
+use Rattle.tables.specs.declared.ByteRole.TheVariants.{Lead, Trailing, Invalid}
 use Rattle.tables.specs.declared.ByteForm.TheVariants.{FssUtf, UtfEbcdic}
-use Rattle.tables.proofs.Agreement.{most-rows, plain_role}
+use Rattle.tables.proofs.Agreement.{plain_role, role_is}
 use Rattle.tables.proofs.ByteLayouts.{fits}
 
 abbrev pub plain_text : ByteForm → List ℕ → List ℕ
@@ -43,42 +44,24 @@ pub item_plain : (f : ByteForm) (s : List ℕ) (p : ℕ) → item_of (form_of (l
     ≡ item_of (byte_form f) p (first_of (byte_form f) (get_or s p 0) (drop (p + 1) s))
 item_plain f s p = rw (← map-drop (plain_of f) (p + 1) s) (first_plain f p (get_or s p 0) (drop (p + 1) s))
 
--- a role by its number, where no lead takes 8 units
-short-lead : (f : ByteForm) (b k : ℕ) → (byte_form f).role b ≡ lead k → k < length (layout_of f).rows
-short-lead f b k e = (in_row (layout_of f) (fits f) (plain_of f b) k (sym (plain_role f b) ∙ e)).inside
+other : (o : Role) (r : ByteRole) → r ≡ role_seen o → (r ≡ Trailing → ⊥) → is_trailing o ≡ false
+other (lead k) r e q = refl
+other trailing r e q = absurd (q e)
+other invalid r e q = refl
 
-number-trailing : (o : Role) (n : ℕ) → ((k : ℕ) → o ≡ lead k → k < 8) → n ≡ role_number o → n ≡ 9 → o ≡ trailing
-number-trailing (lead k) n h e q = absurd (omega (arith, h k refl))
-number-trailing trailing n h e q = refl
-number-trailing invalid n h e q = absurd (omega arith)
+module _ (f : ByteForm) (b : ℕ) (r : ByteRole) (e : r ≡ role_seen ((byte_form f).role b)) where
+  pub role-trailing : r ≡ Trailing → (byte_form f).role b ≡ trailing
+  role-trailing q = role_is ((byte_form f).role b) r Trailing e q
 
-number_other : (o : Role) (n : ℕ) → n ≡ role_number o → (n ≡ 9 → ⊥) → is_trailing o ≡ false
-number_other (lead k) n e q = refl
-number_other trailing n e q = absurd (q e)
-number_other invalid n e q = refl
+  pub role_other : (r ≡ Trailing → ⊥) → is_trailing (role_of (layout_of f) (plain_of f b)) ≡ false
+  role_other q = rw (← plain_role f b) (other ((byte_form f).role b) r e q)
 
-number-invalid : (o : Role) (n : ℕ) → n ≡ role_number o → n ≡ 0 → o ≡ invalid
-number-invalid (lead k) n e q = absurd (omega arith)
-number-invalid trailing n e q = absurd (omega arith)
-number-invalid invalid n e q = refl
+  pub role-invalid : r ≡ Invalid → (byte_form f).role b ≡ invalid
+  role-invalid q = role_is ((byte_form f).role b) r Invalid e q
 
-number-lead : (o : Role) (n : ℕ) → n ≡ role_number o → (n ≡ 9 → ⊥) → (n ≡ 0 → ⊥) → o ≡ lead (n - 1)
-number-lead (lead k) n e q z = ap lead (omega arith)
-number-lead trailing n e q z = absurd (q e)
-number-lead invalid n e q z = absurd (z e)
+  module _ (n : ℕ) (q : r ≡ Lead n) where
+    pub role-lead : role_of (layout_of f) (plain_of f b) ≡ lead (n - 1)
+    role-lead = sym (plain_role f b) ∙ role_is ((byte_form f).role b) r (Lead n) e q
 
-module _ (f : ByteForm) (b n : ℕ) (e : n ≡ role_number ((byte_form f).role b)) where
-  pub role-trailing : n ≡ 9 → (byte_form f).role b ≡ trailing
-  role-trailing q = number-trailing ((byte_form f).role b) n (λ k r. omega (arith, short-lead f b k r, most-rows f)) e q
-
-  pub role_other : (n ≡ 9 → ⊥) → is_trailing (role_of (layout_of f) (plain_of f b)) ≡ false
-  role_other q = rw (← plain_role f b) (number_other ((byte_form f).role b) n e q)
-
-  pub role-invalid : n ≡ 0 → (byte_form f).role b ≡ invalid
-  role-invalid q = number-invalid ((byte_form f).role b) n e q
-
-  pub role-lead : (n ≡ 9 → ⊥) → (n ≡ 0 → ⊥) → role_of (layout_of f) (plain_of f b) ≡ lead (n - 1)
-  role-lead q z = sym (plain_role f b) ∙ number-lead ((byte_form f).role b) n e q z
-
-  pub lead_in_row : (n ≡ 9 → ⊥) → (n ≡ 0 → ⊥) → InRow (layout_of f) (fits f) (plain_of f b) (n - 1)
-  lead_in_row q z = in_row (layout_of f) (fits f) (plain_of f b) (n - 1) (role-lead q z)
+    pub lead_in_row : InRow (layout_of f) (fits f) (plain_of f b) (n - 1)
+    lead_in_row = in_row (layout_of f) (fits f) (plain_of f b) (n - 1) role-lead

@@ -12,8 +12,10 @@ use Rattle.forms.specs.Form.{trailing, is_trailing, taken}
 use Rattle.forms.specs.Layout.{Layout, role_of, number, form_of}
 use Rattle.laws.proofs.Digits.{IsDigit}
 use Rattle.laws.proofs.LayoutLaws.{trailing_digit}
-use Rattle.tables.specs.ByteForms.{byte_form, layout_of, plain_of, role_number}
+use Rattle.tables.specs.ByteForms.{byte_form, layout_of, plain_of, role_seen}
 use Rattle.tables.specs.declared.ByteForm.{ByteForm}
+use Rattle.tables.specs.declared.ByteRole.{ByteRole}
+use Rattle.tables.specs.declared.ByteRole.TheVariants.{Trailing}
 use Rattle.items.specs.Tail.{TailIs}
 use Rattle.tables.proofs.Agreement.{plain_role}
 use Rattle.tables.proofs.ByteLayouts.{fits, radix_positive}
@@ -137,20 +139,20 @@ module _ (f : ByteForm) (s : List ℕ) (from asked lead : ℕ) where
     pub bytes_asked : asked ≤ count → TailOf count value
     bytes_asked h = stops_at-asked (layout_of f) (plain_text f s) from asked lead count at value j h
 
-    module _ (h : at < length s) (n : ℕ) (e : n ≡ role_number ((byte_form f).role (get_or s at 0))) where
-      pub bytes_other : (n ≡ 9 → ⊥) → TailOf count value
+    module _ (h : at < length s) (b : ByteRole) (e : b ≡ role_seen ((byte_form f).role (get_or s at 0))) where
+      pub bytes_other : (b ≡ Trailing → ⊥) → TailOf count value
       bytes_other q =
           stops_at_other (layout_of f) (plain_text f s) from asked lead count at value j (rw (plain_length f s) h)
-          (rw (plain_at f s at) (role_other f (get_or s at 0) n e q))
+          (rw (plain_at f s at) (role_other f (get_or s at 0) b e q))
 
-      trails : n ≡ 9 → role_of (layout_of f) (plain_of f (get_or s at 0)) ≡ trailing
-      trails q = sym (plain_role f (get_or s at 0)) ∙ role-trailing f (get_or s at 0) n e q
+      trails : b ≡ Trailing → role_of (layout_of f) (plain_of f (get_or s at 0)) ≡ trailing
+      trails q = sym (plain_role f (get_or s at 0)) ∙ role-trailing f (get_or s at 0) b e q
 
-      pub bytes_digit : n ≡ 9 → IsDigit (layout_of f).low (layout_of f).radix (plain_of f (get_or s at 0))
+      pub bytes_digit : b ≡ Trailing → IsDigit (layout_of f).low (layout_of f).radix (plain_of f (get_or s at 0))
       bytes_digit q = trailing_digit (layout_of f) (fits f) (plain_of f (get_or s at 0)) (trails q)
 
       pub bytes_more :
-          n ≡ 9 → count < asked → (r x : ℕ) → r ≡ (layout_of f).radix → x ≡ plain_of f (get_or s at 0) - (layout_of f).low
+          b ≡ Trailing → count < asked → (r x : ℕ) → r ≡ (layout_of f).radix → x ≡ plain_of f (get_or s at 0) - (layout_of f).low
           → JoiningBytes (count + 1) (at + 1) (value * r + x)
       bytes_more q k r x er ex =
           rw (er, ex, ← plain_at f s at)

@@ -1,13 +1,16 @@
-// The item at an offset inside a text, by the width of its code units: `bytes`, `utf16`, `ucs4`. These functions ask that the offset lies
-// inside: the calls of `reader` ask nothing.
+// The item at an offset inside a text: `SourceForm` has the promise, and `bytes`, `utf16` and `ucs4` keep it for the four forms. It asks that
+// the offset lies inside: the calls of `reader` ask nothing.
 #![tactic(auto)]
 
-pub mod bytes;
-pub mod ucs4;
-pub mod utf16;
+mod bytes;
+mod form;
+mod ucs4;
+mod utf16;
 
 ghost use Rattle.std.specs.Prelude.{◌≡◌};
 ghost use Rattle.forms.specs.Forms.{is_surrogate};
+
+pub use form::SourceForm;
 
 // Whether a value is one that no form carries.
 pub fn is_surrogate(value: u32) -> bool

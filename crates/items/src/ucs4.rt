@@ -1,24 +1,34 @@
 // UCS-4.
-ghost use Rattle.std.specs.Prelude.{◌≡◌, ◌<◌, length};
+ghost use Rattle.std.specs.Prelude.{◌≡◌, refl};
 ghost use Rattle.forms.specs.Forms.{ucs4};
-ghost use Rattle.items.specs.ItemAt.{item_at};
+ghost use Rattle.laws.proofs.FourForms.{ucs4_laws};
 
-use types::{Fault, Item, Span};
+use crate::form::SourceForm;
+use types::{Fault, Item, Span, Ucs4};
 
-pub fn item_at(text: &[u32], at: usize) -> Item
-    requires { at < length text.now }
-    ensures { result ≡ item_at ucs4 text.now at }
-{
-    let unit = text[at];
-    let span = Span {
-        offset: at,
-        length: 1,
-    };
-    if 0x80000000 <= unit {
-        return Item::Mark(Fault::InvalidUnit, span);
+impl SourceForm for Ucs4 {
+    type Unit = u32;
+
+    ghost form = { ucs4 };
+
+    ghost units = { λ s. s };
+
+    fn item_at(text: &[u32], at: usize) -> Item {
+        let unit = text[at];
+        let span = Span {
+            offset: at,
+            length: 1,
+        };
+        if 0x80000000 <= unit {
+            return Item::Mark(Fault::InvalidUnit, span);
+        }
+        if crate::is_surrogate(unit) {
+            return Item::Mark(Fault::Surrogate, span);
+        }
+        Item::Character(unit, span)
     }
-    if crate::is_surrogate(unit) {
-        return Item::Mark(Fault::Surrogate, span);
-    }
-    Item::Character(unit, span)
+
+    ghost laws = { ucs4_laws };
+
+    ghost counted = { λ s. refl };
 }

@@ -1,12 +1,13 @@
 -- What the tables of both layouts share: lead bases, and roles by the shadow flags. Each by one computed test.
-use Prim.Native.Nat.{ℕ, suc, ◌≤◌, ◌<◌}
+use Prim.Native.Nat.{ℕ, zero, suc, ◌+◌, ◌-◌, ◌≤◌, ◌<◌}
 use mathlib.Core.Path.{◌≡◌, refl, sym, ap, ◌∙◌}
 use mathlib.Core.Bool.{Bool, true, cond, ◌&&◌}
 use mathlib.Core.List.{List, [], ◌∷◌}
 use native.Mathlib.Omega.{arith}
 use lib.Dec.{eqb, leb, ltb}
-use borrow.Author.Tests.{eqb-true, eq-eqb, ne_eqb, le-leb, lt-ltb}
+use borrow.Author.Tests.{eqb-true, ne_eqb, le-leb, lt-ltb}
 use lib.ListN.{length, get_or}
+use Rattle.forms.specs.Form.{Role, lead, trailing, invalid}
 use Rattle.forms.specs.Layout.{row_at, role_of}
 use Rattle.forms.specs.Exchange.{i8_of, ebcdic_of}
 use Rattle.forms.specs.Flags.{flag_of}
@@ -14,8 +15,10 @@ use Rattle.forms.specs.Forms.{byte_layout}
 use Rattle.laws.proofs.Table.{all_below, below}
 use Rattle.laws.proofs.ExchangeTable.{exchange_of_inverse, inverse_byte}
 use Rattle.tables.specs.Tables.{Flagged}
-use Rattle.tables.specs.ByteForms.{byte_form, layout_of, plain_of, role_number}
+use Rattle.tables.specs.ByteForms.{byte_form, layout_of, plain_of, role_seen}
 use Rattle.tables.specs.declared.ByteForm.{ByteForm}
+use Rattle.tables.specs.declared.ByteRole.{ByteRole}
+use Rattle.tables.specs.declared.ByteRole.TheVariants.{Lead, Trailing, Invalid}
 use Rattle.tables.specs.declared.ByteForm.TheVariants.{FssUtf, UtfEbcdic}
 
 pub most-rows : (f : ByteForm) → length (layout_of f).rows < 8
@@ -52,26 +55,67 @@ flag_of_range k plain h l m =
           eqb-true _ _ (rw (le-leb (get_or firsts k 0) (i8_of b) from, lt-ltb (i8_of b) (get_or firsts (suc k) 0) to) at t);
     }
 
--- the flag of a byte that stands alone is 0 or 1; any other flag is the role's number
-flag_role : (x : ℕ) → x < 0x100 → cond (eqb (flag_of (ebcdic_of x)) 0) 1 (flag_of (ebcdic_of x)) ≡ role_number (role_of (byte_layout 5 7) x)
-flag_role x h =
-    eqb-true _ _
-    (below 0x100 (λ y. eqb (cond (eqb (flag_of (ebcdic_of y)) 0) 1 (flag_of (ebcdic_of y))) (role_number (role_of (byte_layout 5 7) y))) refl x h)
+-- a role that was told, as the rules name it
+abbrev pub role_meant : ByteRole → Role
+role_meant (Lead n) = lead (n - 1)
+role_meant Trailing = trailing
+role_meant Invalid = invalid
+
+meant : (o : Role) → role_meant (role_seen o) ≡ o
+meant (lead k) = ap lead (omega arith)
+meant trailing = refl
+meant invalid = refl
+
+pub role_is : (o : Role) (r t : ByteRole) → r ≡ role_seen o → r ≡ t → o ≡ role_meant t
+role_is o r t e q = sym (meant o) ∙ ap role_meant (sym e ∙ q)
+
+-- a role as a number: trailing 0, invalid 1, and a lead by the bytes of its sequence and one more
+abbrev coded : Role → ℕ
+coded (lead k) = suc (suc k)
+coded trailing = 0
+coded invalid = 1
+
+abbrev decoded : ℕ → ByteRole
+decoded zero = Trailing
+decoded (suc zero) = Invalid
+decoded (suc (suc k)) = Lead (suc k)
+
+seen_by_code : (o : Role) → decoded (coded o) ≡ role_seen o
+seen_by_code (lead k) = refl
+seen_by_code trailing = refl
+seen_by_code invalid = refl
+
+decoded_lead : (n : ℕ) → 1 ≤ n → decoded (n + 1) ≡ Lead n
+decoded_lead zero h = absurd (omega arith)
+decoded_lead (suc m) h = let e : suc m + 1 ≡ suc (suc m) = omega arith in ap decoded e
+
+-- the flag of a byte that stands alone is 0 or 1, that of a trailing byte 9; any other is the length of the sequence that it leads
+abbrev flag_code : ℕ → ℕ
+flag_code n = cond (eqb n 0) 2 (cond (eqb n 9) 0 (n + 1))
+
+flag_role : (x : ℕ) → x < 0x100 → flag_code (flag_of (ebcdic_of x)) ≡ coded (role_of (byte_layout 5 7) x)
+flag_role x h = eqb-true _ _ (below 0x100 (λ y. eqb (flag_code (flag_of (ebcdic_of y))) (coded (role_of (byte_layout 5 7) y))) refl x h)
 
 module _ (x n : ℕ) (h : x < 0x100) (f : Flagged x n) where
   is_flag : n ≡ flag_of (ebcdic_of x)
   is_flag = f.each (ebcdic_of x) (inverse_byte x h) (exchange_of_inverse x h)
 
-  pub flag_zero : n ≡ 0 → 1 ≡ role_number (role_of (byte_layout 5 7) x)
-  flag_zero e = rw (eq-eqb (flag_of (ebcdic_of x)) 0 (sym is_flag ∙ e)) at (flag_role x h)
+  flag_seen : decoded (flag_code n) ≡ role_seen (role_of (byte_layout 5 7) x)
+  flag_seen = ap decoded (ap (λ y. flag_code y) is_flag ∙ flag_role x h) ∙ seen_by_code (role_of (byte_layout 5 7) x)
 
-  pub flag_other : (n ≡ 0 → ⊥) → n ≡ role_number (role_of (byte_layout 5 7) x)
-  flag_other z = is_flag ∙ (rw (ne_eqb (flag_of (ebcdic_of x)) 0 (λ e. z (is_flag ∙ e))) at (flag_role x h))
+  pub flag_zero : n ≡ 0 → Lead 1 ≡ role_seen (role_of (byte_layout 5 7) x)
+  flag_zero e = rw e at flag_seen
+
+  pub flag_nine : n ≡ 9 → Trailing ≡ role_seen (role_of (byte_layout 5 7) x)
+  flag_nine e = rw e at flag_seen
+
+  pub flag_other : (n ≡ 0 → ⊥) → (n ≡ 9 → ⊥) → Lead n ≡ role_seen (role_of (byte_layout 5 7) x)
+  flag_other z t = sym (decoded_lead n (omega arith)) ∙ (rw (ne_eqb n 0 z, ne_eqb n 9 t) at flag_seen)
 
 -- a form's byte has the role of the layout's byte that it stands for
 pub plain_role : (f : ByteForm) (b : ℕ) → (byte_form f).role b ≡ role_of (layout_of f) (plain_of f b)
 plain_role FssUtf b = refl
 plain_role UtfEbcdic b = refl
 
-pub byte_role : (f : ByteForm) (b x n : ℕ) → x ≡ plain_of f b → n ≡ role_number (role_of (layout_of f) x) → n ≡ role_number ((byte_form f).role b)
-byte_role f b x n e r = r ∙ ap (λ y. role_number (role_of (layout_of f) y)) e ∙ ap role_number (sym (plain_role f b))
+pub byte_role : (f : ByteForm) (b x : ℕ) (r : ByteRole) → x ≡ plain_of f b → r ≡ role_seen (role_of (layout_of f) x) → r ≡ role_seen ((byte_form f).role b)
+byte_role f b x r e q = q ∙ ap (λ y. role_seen (role_of (layout_of f) y)) e ∙ ap role_seen (sym (plain_role f b))

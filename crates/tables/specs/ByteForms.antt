@@ -5,6 +5,8 @@ use Rattle.forms.specs.Layout.{Layout}
 use Rattle.forms.specs.Exchange.{i8_of, ebcdic_of}
 use Rattle.forms.specs.Forms.{byte_layout, fss_utf, utf_ebcdic}
 use Rattle.tables.specs.declared.ByteForm.{ByteForm}
+use Rattle.tables.specs.declared.ByteRole.{ByteRole}
+use Rattle.tables.specs.declared.ByteRole.TheVariants.{Lead, Trailing, Invalid}
 use Rattle.tables.specs.declared.ByteForm.TheVariants.{FssUtf, UtfEbcdic}
 
 abbrev pub byte_form : ByteForm → Form
@@ -24,8 +26,8 @@ abbrev pub unit_of : ByteForm → ℕ → ℕ
 unit_of FssUtf b = b
 unit_of UtfEbcdic b = ebcdic_of b
 
--- a role as a number, as the shadow flags number the leads and trailing bytes
-abbrev pub role_number : Role → ℕ
-role_number (lead k) = suc k
-role_number trailing = 9
-role_number invalid = 0
+-- a role as `role` tells it: a lead by the bytes of its sequence
+abbrev pub role_seen : Role → ByteRole
+role_seen (lead k) = Lead (suc k)
+role_seen trailing = Trailing
+role_seen invalid = Invalid

@@ -44,55 +44,64 @@ const INVERSE: [u8; 256] = [
     0xB2, 0xB3, 0xB4, 0xB5, 0xB6, 0xB7, 0xB8, 0xB9, 0x6A, 0x70, 0xB0, 0xB1, 0x41, 0x51, 0x4A, 0xE1,
 ];
 
-// The exchange whole, put into a lent table for a loop to look up in, and the I8 byte of one UTF-EBCDIC byte. That byte is looked up here, so
-// that the compiler keeps the 256 constants in this function and does not repeat them in each caller.
-pub fn exchange_table(table: &mut [u8; 256], byte: u8) -> u8
-    ensures { (result ≡ i8_of byte) × Tabulates i8_of table.new }
-{
-    *table = EXCHANGE;
-    table[byte as usize]
+// The exchange whole, made once for a loop to look up in. It is made by a call that is not inlined, so that the 256 constants stand in the
+// archive once.
+#[derive(Clone, Copy)]
+pub struct ExchangeTable {
+    bytes: [u8; 256],
+    ghost tabulates: { Tabulates i8_of bytes },
 }
 
-// The same for the inverse: the UTF-EBCDIC byte of one I8 byte.
-pub fn inverse_table(table: &mut [u8; 256], byte: u8) -> u8
-    ensures { (result ≡ ebcdic_of byte) × Tabulates ebcdic_of table.new }
-{
-    *table = INVERSE;
-    table[byte as usize]
+impl ExchangeTable {
+    #[inline(never)]
+    pub fn new() -> Self {
+        ExchangeTable { bytes: EXCHANGE }
+    }
+
+    // The I8 byte of a UTF-EBCDIC byte.
+    pub fn get(&self, byte: u8) -> u8
+        ensures { result ≡ i8_of byte }
+    {
+        self.bytes[usize::from(byte)]
+    }
+}
+
+// The same for the inverse: a type of its own, so that no byte is looked up in the wrong one.
+#[derive(Clone, Copy)]
+pub struct InverseTable {
+    bytes: [u8; 256],
+    ghost tabulates: { Tabulates ebcdic_of bytes },
+}
+
+impl InverseTable {
+    #[inline(never)]
+    pub fn new() -> Self {
+        InverseTable { bytes: INVERSE }
+    }
+
+    // The UTF-EBCDIC byte of an I8 byte.
+    pub fn get(&self, byte: u8) -> u8
+        ensures { result ≡ ebcdic_of byte }
+    {
+        self.bytes[usize::from(byte)]
+    }
 }
 
 // The I8 byte of a UTF-EBCDIC byte.
 pub fn exchange(byte: u8) -> u8
     ensures { result ≡ i8_of byte }
 {
-    let mut table: [u8; 256] = [0; 256];
-    exchange_table(&mut table, byte)
+    ExchangeTable::new().get(byte)
 }
 
 // The UTF-EBCDIC byte of an I8 byte.
 pub fn inverse(byte: u8) -> u8
     ensures { result ≡ ebcdic_of byte }
 {
-    let mut table: [u8; 256] = [0; 256];
-    inverse_table(&mut table, byte)
+    InverseTable::new().get(byte)
 }
 
-// What a table has for a byte.
-pub fn exchanged(table: &[u8; 256], byte: u8) -> u8
-    requires { Tabulates i8_of table.now }
-    ensures { result ≡ i8_of byte }
-{
-    table[byte as usize]
-}
-
-pub fn restored(table: &[u8; 256], byte: u8) -> u8
-    requires { Tabulates ebcdic_of table.now }
-    ensures { result ≡ ebcdic_of byte }
-{
-    table[byte as usize]
-}
-
-// The shadow flag of a UTF-EBCDIC byte, worked out from its I8 byte.
+// The shadow flag of a UTF-EBCDIC byte, worked out from its I8 byte. The flags are numbers, as the client's papers have them.
 pub fn flag(plain: u8) -> u8
     ensures { Flagged plain result }
 {

@@ -6,10 +6,11 @@ pub mod exchange;
 
 ghost use Rattle.std.specs.Prelude.{◌≡◌, ◌<◌, ◌≤◌, length};
 ghost use Rattle.forms.specs.Layout.{role_of, row_at, lowest_of};
-ghost use Rattle.tables.specs.ByteForms.{layout_of, plain_of, unit_of, role_number};
+ghost use Rattle.tables.specs.ByteForms.{layout_of, plain_of, unit_of, role_seen};
 
-// The two forms whose code units are bytes.
-#[derive(Clone, Copy)]
+// The two forms whose code units are bytes. A parameter, since the tables are two cases of one layout, by which the proofs go too: readers
+// that carry a table have the trait `Layout` of `characters`.
+#[derive(Clone, Copy, PartialEq, Eq, Debug)]
 pub enum ByteForm {
     FssUtf,
     UtfEbcdic,
@@ -45,9 +46,17 @@ pub fn unit(form: ByteForm, plain: u8) -> u8
     }
 }
 
-// The role of a byte of the layout: n for the lead of n bytes, 9 for trailing, 0 for neither.
-pub fn role(form: ByteForm, plain: u8) -> u8
-    ensures { result ≡ role_number (role_of (layout_of form) plain) }
+// What a byte of the layout does: it leads a sequence of so many bytes, trails a lead, or stands in no sequence.
+#[derive(Clone, Copy, PartialEq, Eq)]
+pub enum ByteRole {
+    Lead(usize),
+    Trailing,
+    Invalid,
+}
+
+// The role of a byte of the layout.
+pub fn role(form: ByteForm, plain: u8) -> ByteRole
+    ensures { result ≡ role_seen (role_of (layout_of form) plain) }
 {
     match form {
         ByteForm::FssUtf => role_fss_utf(plain),
@@ -55,29 +64,30 @@ pub fn role(form: ByteForm, plain: u8) -> u8
     }
 }
 
-fn role_fss_utf(plain: u8) -> u8
-    ensures { result ≡ role_number (role_of (layout_of ByteForm.FssUtf) plain) }
+fn role_fss_utf(plain: u8) -> ByteRole
+    ensures { result ≡ role_seen (role_of (layout_of ByteForm.FssUtf) plain) }
 {
     match plain {
-        0x00..=0x7F => 1,
-        0x80..=0xBF => 9,
-        0xC0..=0xDF => 2,
-        0xE0..=0xEF => 3,
-        0xF0..=0xF7 => 4,
-        0xF8..=0xFB => 5,
-        0xFC..=0xFD => 6,
-        0xFE..=0xFF => 0,
+        0x00..=0x7F => ByteRole::Lead(1),
+        0x80..=0xBF => ByteRole::Trailing,
+        0xC0..=0xDF => ByteRole::Lead(2),
+        0xE0..=0xEF => ByteRole::Lead(3),
+        0xF0..=0xF7 => ByteRole::Lead(4),
+        0xF8..=0xFB => ByteRole::Lead(5),
+        0xFC..=0xFD => ByteRole::Lead(6),
+        0xFE..=0xFF => ByteRole::Invalid,
     }
 }
 
-fn role_i8(plain: u8) -> u8
-    ensures { result ≡ role_number (role_of (layout_of ByteForm.UtfEbcdic) plain) }
+// By the shadow flags, which number the leads by the bytes of their sequences, but for those of one byte.
+fn role_i8(plain: u8) -> ByteRole
+    ensures { result ≡ role_seen (role_of (layout_of ByteForm.UtfEbcdic) plain) }
 {
-    let f = crate::exchange::flag(plain);
-    if f == 0 {
-        return 1;
+    match crate::exchange::flag(plain) {
+        0 => ByteRole::Lead(1),
+        9 => ByteRole::Trailing,
+        length => ByteRole::Lead(usize::from(length)),
     }
-    f
 }
 
 // The first trailing byte of the layout.

@@ -1,9 +1,6 @@
-use Prim.Native.Nat.{◌-◌}
+use Prim.Native.Nat.{◌+◌}
 use Rattle.items.proofs.Tails.{JoiningBytes}
 use Rattle.items.proofs.bytes.tail_at.Given as goal
 
 abbrev pub invariant-loop-count : goal.invariant-loop-count
-invariant-loop-count l = JoiningBytes l.form l.text l.from l.asked l.lead l.count l.at l.value
-
-abbrev pub decreases-loop-count : goal.decreases-loop-count
-decreases-loop-count l = l.asked - l.count
+invariant-loop-count l = JoiningBytes l.form l.text l.from l.asked l.lead l.count (l.from + l.count) l.value
