@@ -2,13 +2,14 @@
 // character, the reader of items looks. `specs/Short` has the promise.
 #![tactic(auto)]
 
+mod bytes;
 pub mod fss_utf;
 pub mod utf16;
 pub mod utf_ebcdic;
 
-// A character's value and its number of code units; a length of 0 where there may be none.
-#[derive(Clone, Copy)]
-pub struct Short {
+// A character's value and its number of code units.
+#[derive(Clone, Copy, PartialEq, Eq, Debug)]
+pub struct Character {
     pub value: u32,
     pub length: usize,
 }

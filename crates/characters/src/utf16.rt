@@ -3,59 +3,27 @@ ghost use Rattle.std.specs.Prelude.{◌≡◌, ◌<◌, length};
 ghost use Rattle.forms.specs.Forms.{utf16};
 ghost use Rattle.characters.specs.Short.{ShortAt};
 
-use crate::Short;
+use crate::Character;
 
-fn wide(unit: u16) -> u32
-    ensures { result ≡ unit }
-{
-    unit as u32
-}
-
-// The character at an offset.
-pub fn short_at(text: &[u16], at: usize) -> Short
+// The character at an offset. A pair's value is the same term in `items` and `runs_from_utf16`, which know other things of its units.
+pub fn short_at(text: &[u16], at: usize) -> Option<Character>
     requires { at < length text.now }
-    ensures { ShortAt utf16 text.now at result.value result.length }
+    ensures { ShortAt utf16 text.now at result }
 {
-    let unit = wide(text[at]);
-    if unit < 0xD800 {
-        return Short {
+    let unit = u32::from(text[at]);
+    if !(0xD800..=0xDFFF).contains(&unit) {
+        return Some(Character {
             value: unit,
             length: 1,
-        };
+        });
     }
-    if 0xE000 <= unit {
-        return Short {
-            value: unit,
-            length: 1,
-        };
+    if 0xDC00 <= unit || text.len() - at < 2 {
+        return None;
     }
-    if 0xDC00 <= unit {
-        return Short {
-            value: 0,
-            length: 0,
-        };
+    let next = u32::from(text[at + 1]);
+    if !(0xDC00..=0xDFFF).contains(&next) {
+        return None;
     }
-    if text.len() - at < 2 {
-        return Short {
-            value: 0,
-            length: 0,
-        };
-    }
-    let next = wide(text[at + 1]);
-    if next < 0xDC00 {
-        return Short {
-            value: 0,
-            length: 0,
-        };
-    }
-    if 0xE000 <= next {
-        return Short {
-            value: 0,
-            length: 0,
-        };
-    }
-    Short {
-        value: 0x10000 + (unit - 0xD800) * 0x400 + (next - 0xDC00),
-        length: 2,
-    }
+    let value = 0x10000 + (unit - 0xD800) * 0x400 + (next - 0xDC00);
+    Some(Character { value, length: 2 })
 }

@@ -79,14 +79,14 @@ module _ (first low R : ℕ) (unit : ℕ → ℕ) (v : ℕ) (d : List ℕ) (at m
     backward_more zero w x p h b q = absurd (omega arith)
     backward_more (suc i) w x p h b q = let e : suc i - 1 ≡ i = omega arith in rw e (turn i w x p b q)
 
-    pub lead_byte : (j w : ℕ) → j ≤ 0 → Backward first low R unit v d at m o j w → first + w ≤ 0xFF
+    pub lead_byte : (j w : ℕ) → j < 1 → Backward first low R unit v d at m o j w → first + w ≤ 0xFF
     lead_byte zero w h b =
         let e : (0x100 - first) * R ^ 0 ≡ 0x100 - first = rw (pow-zero R) (mul-one (0x100 - first)) in
         omega (arith, rw e at b.bound, b.byte)
     lead_byte (suc i) w h b = absurd (omega arith)
 
     pub backward_end :
-        (j w x : ℕ) (e : List ℕ) → j ≤ 0 → Backward first low R unit v d at m o j w → x ≡ unit (first + w) → e ≡ map unit (spelled_from first low R m v)
+        (j w x : ℕ) (e : List ℕ) → j < 1 → Backward first low R unit v d at m o j w → x ≡ unit (first + w) → e ≡ map unit (spelled_from first low R m v)
         → set o at x ≡ with_units d at e
     backward_end zero w x e h b q s =
         let t = map unit b.done ++ drop (at + m + 1) d in

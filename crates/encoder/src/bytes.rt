@@ -6,19 +6,7 @@ ghost use Rattle.tables.specs.ByteForms.{byte_form};
 
 use tables::ByteForm;
 
-// The trailing bytes of the value's encoding: as many as the first length has that the value fits.
-fn trailing(form: ByteForm, value: u32) -> usize
-    requires { encode (byte_form form) value ≢ [] }
-    ensures { length (encode (byte_form form) value) ≡ result + 1 }
-{
-    let mut count: usize = 0;
-    while tables::lowest(form, count + 1) <= value {
-        count += 1;
-    }
-    count
-}
-
-// The same without a loop, for those who ask it of each character: a constant table costs nothing where the compiler knows the index.
+// How many bytes a value has, without a loop: a constant table costs nothing where the compiler knows the index.
 pub fn encoded_length(form: ByteForm, value: u32) -> usize
     requires { encode (byte_form form) value ≢ [] }
     ensures { result ≡ length (encode (byte_form form) value) }
@@ -49,15 +37,13 @@ pub fn write(form: ByteForm, value: u32, dst: &mut [u8], at: usize) -> usize
     requires { (encode (byte_form form) value ≢ []) × (at + length (encode (byte_form form) value) ≤ length dst.old) }
     ensures { (result ≡ at + length (encode (byte_form form) value)) × (dst.new ≡ with_units dst.old at (encode (byte_form form) value)) }
 {
-    let count = trailing(form, value);
+    let count = encoded_length(form, value) - 1;
     let radix = tables::radix(form);
     let low = tables::first_trailing(form);
-    let mut left = count;
     let mut rest = value;
-    while 0 < left {
+    for left in (1..=count).rev() {
         dst[at + left] = tables::unit(form, low + (rest % radix) as u8);
-        rest = rest / radix;
-        left -= 1;
+        rest /= radix;
     }
     dst[at] = tables::unit(form, tables::lead_base(form, count) + rest as u8);
     at + count + 1

@@ -1,10 +1,13 @@
-// Values written in a target form. Here: how many code units strict conversion writes for a value. `bytes`, `utf16` and `ucs4` write one
-// value, by the width of the code units; `fss_utf` and `utf_ebcdic` the same by straight code; `fss_utf_blocks` and `utf16_blocks` many at
-// once, within `value_bounds`. These functions ask that the value is a character's and that the room suffices: the calls of `conversion` ask
+// Values written in a target form. Here: how many code units strict conversion writes for a value. `form` has the target forms as types, and
+// what writes one value: `bytes`, `utf16` and `ucs4`, by the width of the code units. `fss_utf` and `utf_ebcdic` write one by straight code,
+// and `blocks` many at once, by `fss_utf_blocks` and `utf16_blocks`, within `value_bounds`. These functions ask that the value is a
+// character's and that the room suffices, a fact of value and buffer together, which no type of one could hold: the calls of `conversion` ask
 // nothing.
 #![tactic(auto)]
 
+pub mod blocks;
 pub mod bytes;
+pub mod form;
 pub mod fss_utf;
 pub mod fss_utf_blocks;
 pub mod ucs4;
@@ -16,13 +19,12 @@ pub mod value_bounds;
 ghost use Rattle.std.specs.Prelude.{◌≡◌, ◌≢◌, [], length};
 ghost use Rattle.forms.specs.Form.{encode};
 ghost use Rattle.forms.specs.Forms.{ucs4, is_non_character, strictly};
-ghost use Rattle.tables.specs.ByteForms.{byte_form};
 ghost use Rattle.encoder.specs.Target.{target_form};
 
 use tables::ByteForm;
 
-// The form that a text is converted to.
-#[derive(Clone, Copy)]
+// The form that a text is converted to. The measure takes it as a value and no type, so that it is one function for all targets.
+#[derive(Clone, Copy, PartialEq, Eq, Debug)]
 pub enum Target {
     FssUtf,
     UtfEbcdic,
@@ -30,24 +32,16 @@ pub enum Target {
     Ucs4,
 }
 
-// A byte form as the target.
-pub fn byte_target(form: ByteForm) -> Target
-    ensures { target_form result ≡ byte_form form }
-{
-    match form {
-        ByteForm::FssUtf => Target::FssUtf,
-        ByteForm::UtfEbcdic => Target::UtfEbcdic,
-    }
-}
-
-// Whether a value is one that strict conversion turns away.
+// Whether a value is one that strict conversion turns away. `answers`, which tells its fault, has the same line: shared,
+// one would have to stand on the other.
 pub fn is_non_character(value: u32) -> bool
     ensures { result ≡ is_non_character value }
 {
-    (value >= 0xFFFE) & (value <= 0xFFFF)
+    (0xFFFE..=0xFFFF).contains(&value)
 }
 
-// How many code units the legal encoding of a character's value has: 0 where the target does not hold it.
+// How many code units the legal encoding of a character's value has: 0, and no Option, where the target does not hold it, since its encoding
+// is empty there.
 fn legal_length(target: Target, value: u32) -> usize
     requires { encode ucs4 value ≢ [] }
     ensures { result ≡ length (encode (target_form target) value) }

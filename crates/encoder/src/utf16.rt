@@ -4,7 +4,7 @@ ghost use Rattle.forms.specs.Form.{encode};
 ghost use Rattle.forms.specs.Forms.{utf16, ucs4};
 ghost use Rattle.forms.specs.Buffer.{with_units};
 
-// Of a character's value: 0 where it lies above 10FFFF.
+// Of a character's value: 0, and no Option, where it lies above 10FFFF, since its encoding is empty there.
 pub fn encoded_length(value: u32) -> usize
     requires { encode ucs4 value ≢ [] }
     ensures { result ≡ length (encode utf16 value) }

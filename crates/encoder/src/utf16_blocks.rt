@@ -1,56 +1,32 @@
-// Many values in UTF-16, in blocks. They must have encodings, and the room must suffice: `laws/proofs/Values` says what is asked and
-// promised.
+// A block of values in UTF-16.
 ghost use Rattle.std.specs.Prelude.{length};
 ghost use Rattle.forms.specs.Forms.{utf16};
 ghost use Rattle.laws.proofs.Blocks.{AtMost};
 ghost use Rattle.laws.proofs.Values.{Encodable, Encoded, Room};
 
-// Values below 10000: each is its unit.
-fn copy(values: &[u32], from: usize, count: usize, dst: &mut [u16], at: usize) -> usize
-    requires { (Encodable utf16 values.now from count) × (Room utf16 values.now from count at (length dst.old)) × (AtMost values.now from count 0xFFFF) }
-    ensures { Encoded utf16 values.now from count dst.old at result dst.new }
+use crate::blocks::BlockForm;
+use types::Utf16;
+
+// Values below 10000: each is its unit. FSS-UTF has its own copy: by a trait the cast would be a method, and no plainer.
+fn copy(values: &[u32], dst: &mut [u16], at: usize) -> usize
+    requires { (Encodable utf16 values.now 0 (length values.now)) × (Room utf16 values.now 0 (length values.now) at (length dst.old)) × (AtMost values.now 0 (length values.now) 0xFFFF) }
+    ensures { Encoded utf16 values.now 0 (length values.now) dst.old at result dst.new }
 {
-    let mut k: usize = 0;
-    while k < count {
-        dst[at + k] = values[from + k] as u16;
-        k += 1;
+    for k in 0..values.len() {
+        dst[at + k] = values[k] as u16;
     }
-    at + count
+    at + values.len()
 }
 
-fn each(values: &[u32], from: usize, count: usize, dst: &mut [u16], at: usize) -> usize
-    requires { (Encodable utf16 values.now from count) × (Room utf16 values.now from count at (length dst.old)) }
-    ensures { Encoded utf16 values.now from count dst.old at result dst.new }
-{
-    let mut end = at;
-    let mut k: usize = 0;
-    while k < count {
-        end = crate::utf16::write(values[from + k], dst, end);
-        k += 1;
+impl BlockForm for Utf16 {
+    fn write_block(values: &[u32], dst: &mut [u16], at: usize) -> usize {
+        if crate::value_bounds::joined(values) < 0x10000 {
+            return copy(values, dst, at);
+        }
+        crate::blocks::each::<Utf16>(values, dst, at)
     }
-    end
-}
 
-fn block(values: &[u32], from: usize, count: usize, dst: &mut [u16], at: usize) -> usize
-    requires { (Encodable utf16 values.now from count) × (Room utf16 values.now from count at (length dst.old)) }
-    ensures { Encoded utf16 values.now from count dst.old at result dst.new }
-{
-    if crate::value_bounds::joined(values, from, count) < 0x10000 {
-        return copy(values, from, count, dst, at);
+    fn write_rest(values: &[u32], dst: &mut [u16], at: usize) -> usize {
+        Self::write_block(values, dst, at)
     }
-    each(values, from, count, dst, at)
-}
-
-// In blocks of 128: shorter ones are compiled to slower code.
-pub fn write_all(values: &[u32], from: usize, count: usize, dst: &mut [u16], at: usize) -> usize
-    requires { (Encodable utf16 values.now from count) × (Room utf16 values.now from count at (length dst.old)) }
-    ensures { Encoded utf16 values.now from count dst.old at result dst.new }
-{
-    let mut end = at;
-    let mut done: usize = 0;
-    while 128 <= count - done {
-        end = block(values, from + done, 128, dst, end);
-        done += 128;
-    }
-    block(values, from + done, count - done, dst, end)
 }

@@ -1,25 +1,25 @@
 // One value in UTF-EBCDIC, by straight code where it has at most four bytes, and with the inverse table as a parameter, so that a loop
-// looks up in one copy of it.
+// looks up in one copy of it. It is not one with `fss_utf`, whose lengths are functions of their own, for the loops over values of one length.
 ghost use Rattle.std.specs.Prelude.{◌≡◌, ◌≢◌, [], ◌+◌, ◌<◌, ◌≤◌, length};
 ghost use Rattle.forms.specs.Form.{encode};
 ghost use Rattle.forms.specs.Exchange.{ebcdic_of};
 ghost use Rattle.forms.specs.Forms.{utf_ebcdic};
 ghost use Rattle.forms.specs.Buffer.{with_units};
-ghost use Rattle.tables.specs.Tables.{Tabulates};
 
 use tables::ByteForm;
+use tables::exchange::InverseTable;
 
 // The UTF-EBCDIC byte of the I8 byte.
-fn unit(table: &[u8; 256], byte: u32) -> u8
-    requires { Tabulates ebcdic_of table.now × (byte < 256) }
+fn unit(table: &InverseTable, byte: u32) -> u8
+    requires { byte < 256 }
     ensures { result ≡ ebcdic_of byte }
 {
-    tables::exchange::restored(table, byte as u8)
+    table.get(byte as u8)
 }
 
 // What `crate::bytes::write` does for UTF-EBCDIC.
-pub fn write(table: &[u8; 256], value: u32, dst: &mut [u8], at: usize) -> usize
-    requires { Tabulates ebcdic_of table.now × (encode utf_ebcdic value ≢ []) × (at + length (encode utf_ebcdic value) ≤ length dst.old) }
+pub fn write(table: &InverseTable, value: u32, dst: &mut [u8], at: usize) -> usize
+    requires { (encode utf_ebcdic value ≢ []) × (at + length (encode utf_ebcdic value) ≤ length dst.old) }
     ensures { (result ≡ at + length (encode utf_ebcdic value)) × (dst.new ≡ with_units dst.old at (encode utf_ebcdic value)) }
 {
     if value < 0xA0 {

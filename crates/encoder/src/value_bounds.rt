@@ -1,31 +1,25 @@
 // Bounds of many values at once.
-ghost use Rattle.std.specs.Prelude.{◌≡◌, true, ◌+◌, ◌≤◌, length};
+ghost use Rattle.std.specs.Prelude.{◌≡◌, true, length};
 ghost use Rattle.laws.proofs.Blocks.{AtLeast, AtMost};
 
 // The values joined by OR: none of them exceeds it. The loop has no branch, so that it is compiled to vector code.
-pub fn joined(values: &[u32], from: usize, count: usize) -> u32
-    requires { from + count ≤ length values.now }
-    ensures { AtMost values.now from count result }
+pub fn joined(values: &[u32]) -> u32
+    ensures { AtMost values.now 0 (length values.now) result }
 {
     let mut most: u32 = 0;
-    let mut k: usize = 0;
-    while k < count {
-        most = most | values[from + k];
-        k += 1;
+    for value in values {
+        most |= *value;
     }
     most
 }
 
 // Whether all values reach a bound.
-pub fn all_reach(values: &[u32], from: usize, count: usize, bound: u32) -> bool
-    requires { from + count ≤ length values.now }
-    ensures { result ≡ true → AtLeast values.now from count bound }
+pub fn all_reach(values: &[u32], bound: u32) -> bool
+    ensures { result ≡ true → AtLeast values.now 0 (length values.now) bound }
 {
     let mut all = true;
-    let mut k: usize = 0;
-    while k < count {
-        all = all & (values[from + k] >= bound);
-        k += 1;
+    for value in values {
+        all &= *value >= bound;
     }
     all
 }

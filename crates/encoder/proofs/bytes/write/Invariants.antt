@@ -6,6 +6,3 @@ use Rattle.encoder.proofs.bytes.write.Given as goal
 abbrev pub invariant-loop-left : goal.invariant-loop-left
 invariant-loop-left l =
     Backward (row_at (layout_of l.form) l.count).first l.low l.radix (unit_of l.form) l.value l.initial.dst l.at l.count l.dst l.left l.rest
-
-abbrev pub decreases-loop-left : goal.decreases-loop-left
-decreases-loop-left l = l.left

@@ -1,10 +1,6 @@
-use Prim.Native.Nat.{◌+◌, ◌-◌, ◌≤◌}
 use Rattle.forms.specs.Forms.{fss_utf}
 use Rattle.laws.proofs.Spare.{Overrun}
 use Rattle.encoder.proofs.fss_utf_blocks.twos.Given as goal
 
-abbrev pub invariant-loop-k : goal.invariant-loop-k
-invariant-loop-k l = (l.k + 1 ≤ l.count) × Overrun fss_utf l.values l.from l.k l.initial.dst l.at l.end l.dst
-
-abbrev pub decreases-loop-k : goal.decreases-loop-k
-decreases-loop-k l = l.count - l.k
+abbrev pub invariant-loop-value : goal.invariant-loop-value
+invariant-loop-value l = Overrun fss_utf l.values 0 l.value-index l.initial.dst l.at l.end l.dst
