@@ -1,3 +1,4 @@
+pub mod Slices
 pub mod FssUtfAsciiCounting
 pub mod Validating
 pub mod WellFormed

@@ -2,7 +2,7 @@
 use Prim.Native.Nat.{ℕ, suc, ◌+◌, ◌-◌, ◌≤◌, ◌<◌}
 use mathlib.Core.Path.{◌≡◌, sym, ap, ◌∙◌}
 use mathlib.Core.Logic.{◌≢◌}
-use mathlib.Core.Bool.{Bool, true, false}
+use mathlib.Core.Bool.{false}
 use mathlib.Core.List.{List, []}
 use native.Mathlib.Omega.{arith}
 use native.Mathlib.Nat.{add-zero, zero-add}
@@ -27,8 +27,10 @@ use Rattle.tables.proofs.ByteLayouts.{byte_laws, rise, carries, small, encode-le
 use Rattle.encoder.specs.declared.Target.TheVariants as Target
 use Rattle.encoder.proofs.Targets.{encode_seven}
 use Rattle.laws.proofs.UnitEncodings.{below_surrogates, above_surrogates, pair}
-use Rattle.measure_runs.specs.Ucs4Bounds.{is_excluded, number, reached, reached_at, units_at}
+use Rattle.std.specs.Int.{from_bool}
+use Rattle.measure_runs.specs.Ucs4Bounds.{is_excluded, reached, reached_at, units_at}
 use Rattle.measure_runs.proofs.Ucs4Units.{unit-character}
+use Rattle.measure_runs.proofs.Validating.{from_bool-most}
 
 -- a list of one or more is not empty
 some : (e : List ℕ) (n : ℕ) → length e ≡ 1 + n → e ≢ []
@@ -84,12 +86,8 @@ reached-two a b c v h k l = rw (le-leb a v h, le-leb b v k, lt-leb c v l)
 reached-three : (a b c v : ℕ) → a ≤ v → b ≤ v → c ≤ v → reached a b c v ≡ 3
 reached-three a b c v h k l = rw (le-leb a v h, le-leb b v k, le-leb c v l)
 
-pub number-most : (t : Bool) → number t ≤ 1
-number-most true = omega arith
-number-most false = omega arith
-
 pub reached-most : (a b c v : ℕ) → reached a b c v ≤ 3
-reached-most a b c v = omega (arith, number-most (leb a v), number-most (leb b v), number-most (leb c v))
+reached-most a b c v = omega (arith, from_bool-most (leb a v), from_bool-most (leb b v), from_bool-most (leb c v))
 
 byte_seven : (f : ByteForm) (v : ℕ) → length (encode (strictly (byte_form f)) v) ≤ 7
 byte_seven FssUtf v = encode_seven Target.FssUtf v
@@ -193,9 +191,9 @@ module _ (f : ByteForm) where
         let q : k + (sum (front s) at k + sum (back s) at k) ≡ k = omega (arith, z, y) in
         rw q at (counted_bytes s at k m i most (omega (arith, one-low)) (none-excluded most (omega (arith, one-low))))
 
-    module _ {a b c r w : ℕ} (p : a ≡ low 1) (q : b ≡ low 2) (t : c ≡ low 3) (x : r ≡ sum (reached_at a b c s) at k) (y : w ≡ r) (h : m < 0x80000000) (o : NoneOf is_excluded s at k) where
+    module _ {a b c w : ℕ} (p : a ≡ low 1) (q : b ≡ low 2) (t : c ≡ low 3) (x : w ≡ sum (reached_at a b c s) at k) (h : m < 0x80000000) (o : NoneOf is_excluded s at k) where
       counted-front : w ≡ sum (front s) at k
-      counted-front = y ∙ x ∙ rw (p, q, t)
+      counted-front = x ∙ rw (p, q, t)
 
       pub bytes_few : {d : ℕ} → d ≡ low 4 → m < d → Counted ucs4 (strictly (byte_form f)) s at k (k + w)
       bytes_few {d} u l =
@@ -204,9 +202,9 @@ module _ (f : ByteForm) where
           let v : k + (sum (front s) at k + sum (back s) at k) ≡ k + w = omega (arith, z, counted-front) in
           rw v at (counted_bytes s at k m i most h o)
 
-      pub bytes_all : {d e g r₂ w₂ : ℕ} → d ≡ low 4 → e ≡ low 5 → g ≡ low 6 → r₂ ≡ sum (reached_at d e g s) at k → w₂ ≡ r₂ → Counted ucs4 (strictly (byte_form f)) s at k (k + w + w₂)
-      bytes_all {d} {e} {g} {r₂} {w₂} u v n x₂ y₂ =
-          let z : w₂ ≡ sum (back s) at k = y₂ ∙ x₂ ∙ rw (u, v, n) in
+      pub bytes_all : {d e g w₂ : ℕ} → d ≡ low 4 → e ≡ low 5 → g ≡ low 6 → w₂ ≡ sum (reached_at d e g s) at k → Counted ucs4 (strictly (byte_form f)) s at k (k + w + w₂)
+      bytes_all {d} {e} {g} {w₂} u v n x₂ =
+          let z : w₂ ≡ sum (back s) at k = x₂ ∙ rw (u, v, n) in
           let t₂ : k + (sum (front s) at k + sum (back s) at k) ≡ k + w + w₂ = omega (arith, z, counted-front) in
           rw t₂ at (counted_bytes s at k m i most h o)
 
@@ -217,10 +215,10 @@ record Held (v : ℕ) : Type 0 where
   pub passes : is_non_character v ≡ false
   pub below : v < 0x110000
 
-held-length : (v : ℕ) → Held v → length (encode (strictly utf16) v) ≡ 1 + number (leb 0x10000 v)
+held-length : (v : ℕ) → Held v → length (encode (strictly utf16) v) ≡ 1 + from_bool (leb 0x10000 v)
 held-length v h = ap length (as_before turned_away utf16 v (rw h.passes)) ∙ go (dec_lt v 0xD800) (dec_lt v 0x10000)
   where
-    go : Dec (v < 0xD800) → Dec (v < 0x10000) → length (encode utf16 v) ≡ 1 + number (leb 0x10000 v)
+    go : Dec (v < 0xD800) → Dec (v < 0x10000) → length (encode utf16 v) ≡ 1 + from_bool (leb 0x10000 v)
     go (yes a) b = ap length (below_surrogates v a) ∙ rw (lt-leb 0x10000 v (omega arith))
     go (no a) (yes b) = ap length (above_surrogates v (h.outside (omega arith)) b) ∙ rw (lt-leb 0x10000 v b)
     go (no a) (no b) = ap length (pair v (omega arith) h.below) ∙ rw (le-leb 0x10000 v (omega arith))
@@ -230,7 +228,7 @@ held_test : (v : ℕ) → is_excluded v ≡ false → v < 0x110000 → Held v
 held_test v e h = record { outside = outside v (rw (no_surrogate v e)); passes = no_non_character v e; below = h }
 
 pub units-most : (s : List ℕ) (i : ℕ) → units_at s i ≤ 2
-units-most s i = omega (arith, number-most (leb 0x10000 (get_or s i 0)))
+units-most s i = omega (arith, from_bool-most (leb 0x10000 (get_or s i 0)))
 
 strict_laws : Laws (strictly utf16)
 strict_laws = narrowed_laws turned_away utf16 utf16_laws

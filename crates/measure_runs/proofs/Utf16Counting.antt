@@ -124,22 +124,7 @@ module _
       let e : at + k - at ≡ k = omega arith in
       rw e at (between border a at (at + k) next k at (omega arith) (omega arith) (omega arith) w.inside (λ y. w.first (omega arith)))
 
-pub number-most : (x : Bool) → number x ≤ 1
-number-most true = omega arith
-number-most false = omega arith
-
 -- FSS-UTF
-pub bytes_most : (s : List ℕ) (i : ℕ) → bytes_at s i ≤ 3
-bytes_most s i = omega (arith, number-most (leb 0x80 (get_or s i 0)), number-most (leb 0x800 (get_or s i 0)))
-
--- a surrogate is taken off where both bounds were reached
-pub surrogate_reaches : (u : ℕ) → number (is_surrogate u) ≤ number (leb 0x800 u)
-surrogate_reaches u = go (dec_lt u 0x800)
-  where
-    go : Dec (u < 0x800) → number (is_surrogate u) ≤ number (leb 0x800 u)
-    go (yes h) = rw (lt-leb 0xD800 u (omega arith)) (omega arith)
-    go (no h) = rw (le-leb 0x800 u (omega arith)) (number-most (is_surrogate u))
-
 surrogate_two : (u : ℕ) → 0xD800 ≤ u → u < 0xE000 → 1 + number (leb 0x80 u) + number (leb 0x800 u) - number (is_surrogate u) ≡ 2
 surrogate_two u h l = rw (le-leb 0x80 u (omega arith), le-leb 0x800 u (omega arith), within_in 0xD800 0xDFFF u h (omega arith))
 
@@ -161,17 +146,6 @@ counted_bytes s at k units w non =
     ))
 
 -- UTF-EBCDIC
-pub ebcdic_most : (s : List ℕ) (i : ℕ) → ebcdic_at s i ≤ 5
-ebcdic_most s i =
-    let u = get_or s i 0 in
-    omega (
-      arith,
-      number-most (leb 0xA0 u),
-      number-most (leb 0x400 u && not (is_surrogate u)),
-      number-most (leb 0x4000 u && not (is_surrogate u)),
-      number-most (leb 0xD8C0 u && ltb u 0xDC00),
-    )
-
 abbrev ebcdic_of : ℕ → ℕ
 ebcdic_of u = 1 + number (leb 0xA0 u) + number (leb 0x400 u && not (is_surrogate u)) + number (leb 0x4000 u && not (is_surrogate u)) + number (leb 0xD8C0 u && ltb u 0xDC00)
 
@@ -231,9 +205,6 @@ counted_ebcdic s at k units w non =
     counted-whole UtfEbcdic s at k (ebcdic_at s) units w non (λ p h l o. unit_ebcdic (get_or s p 0) (units p) o) (λ p h l x y. pair_ebcdic (get_or s p 0) (get_or s (p + 1) 0) x y)
 
 -- UCS-4
-pub values-most : (s : List ℕ) (i : ℕ) → values_at s i ≤ 1
-values-most s i = number-most (not (is_low (get_or s i 0)))
-
 unit-low : (u : ℕ) → (0xD800 ≤ u → 0xE000 ≤ u) → is_low u ≡ false
 unit-low u o = go (dec_lt u 0xDC00)
   where

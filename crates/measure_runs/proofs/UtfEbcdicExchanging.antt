@@ -25,9 +25,8 @@ module _ (s : List ℕ) (p : ℕ) where
 
   pub single_at : p < length s → i8_of (get_or s p 0) < 0xA0 → CharacterAt utf_ebcdic s p (i8_of (get_or s p 0)) (span p 1)
   single_at h l =
-      (one_byte UtfEbcdic s p (omega arith) {v = i8_of (get_or s p 0)} (record { inside = omega arith; from = omega arith; to = omega arith }) (omega arith)
+      one_byte UtfEbcdic s p (omega arith) {v = i8_of (get_or s p 0)} (record { inside = omega arith; from = omega arith; to = omega arith }) (omega arith)
       (free_below (i8_of (get_or s p 0)) (omega arith))
-      ).character (λ z. omega (arith, z))
 
 pub ascii_counted : (t : Target) {s : List ℕ} {at k : ℕ} → at + k ≤ length s → AtMost (map i8_of s) at k 127 → Counted utf_ebcdic (strictly (target_form t)) s at k k
 ascii_counted t {s} {at} {k} h a =

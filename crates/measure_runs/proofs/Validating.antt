@@ -2,53 +2,48 @@
 use Prim.Native.Nat.{ℕ, ◌+◌, ◌*◌, ◌-◌, ◌≤◌, ◌<◌}
 use mathlib.Core.Path.{◌≡◌, refl, sym, ap, ◌∙◌}
 use mathlib.Core.Bool.{Bool, true, false, not, ◌&&◌, ◌||◌}
-use mathlib.Core.List.{List}
+use mathlib.Core.List.{List, ◌++◌}
 use native.Mathlib.Omega.{arith}
-use lib.Dec.{leb, ltb, eqb}
+use lib.Dec.{leb, ltb}
 use native.Mathlib.Decide.{dec_lt}
-use borrow.Author.Count.{below_more}
-use lib.ListN.{length, get_or, set, replicate, length-set, length-replicate, get_or-replicate, get_or-eq_default}
-use lib.Seq.{get_or-set_same, get_or-set_other}
-use borrow.Author.Tests.{lt-leb, lt-ltb, le-ltb}
+use lib.ListN.{length, get_or, take, drop, replicate, length-replicate, get_or-replicate, get_or-eq_default}
+use lib.Seq.{get_or-append-add}
+use borrow.Rule.Slice.PartMut.{put_mid, post_of}
+use borrow.Author.Tests.{lt-leb}
+use Rattle.std.specs.Int.{from_bool}
+use Rattle.std.proofs.Common.{Option, None, Some, IfSome}
+use Rattle.std.proofs.lemmas.Grind.{common_steps}
+use Rattle.measure_runs.proofs.Slices.{unit_at}
 use Rattle.laws.proofs.Runs.{sum, sum_zero, sum_more, sum_join, sum_most}
 use Rattle.laws.proofs.Values.{sum_along, sum_plus, sum_ones, sum_none, neither_left, neither_right}
-use Rattle.laws.proofs.Blocks.{each_none, each_more, each_join, each_all}
+use Rattle.laws.proofs.Blocks.{each_none, each_more, each_join}
 use Rattle.measure_runs.specs.declared.fss_utf_validation.Weights.{Weights}
-use Rattle.measure_runs.specs.Validation.{is_trailing_byte, ill_formed_at, Validated, bit, reached, splits, added, added_at, lead_at, reached_at, split_at, LeadWeights, Blocks, Whole, Padded}
+use Rattle.measure_runs.specs.Validation.{is_trailing_byte, ill_formed_at, Validated, reached, splits, added, added_at, lead_at, reached_at, split_at, LeadWeights, Blocks, Whole, Padded}
 
-pub bit-most : (x : Bool) → bit x ≤ 1
-bit-most true = omega arith
-bit-most false = omega arith
+pub from_bool-most : (x : Bool) → from_bool x ≤ 1
+from_bool-most true = omega arith
+from_bool-most false = omega arith
 
-pub not-reached : (t b : ℕ) → b < t → reached t b ≡ false
-not-reached t b h = rw (lt-leb t b h) (no (ltb t 0xFF))
-  where
-    no : (x : Bool) → (x && false) ≡ false
-    no true = refl
-    no false = refl
+pub not-reached : (t : Option ℕ) (b : ℕ) → IfSome t (λ x. b < x) → reached t b ≡ false
+not-reached None b h = refl
+not-reached (Some t) b h = lt-leb t b h
 
--- below FF a weight is one
-pub reached_below : (t b : ℕ) → t < 0xFF → reached t b ≡ leb t b
-reached_below t b h = rw (lt-ltb t 0xFF h)
-
-pub splits_below : (t p b : ℕ) → t < 0xFF → splits t p b ≡ (leb 0xA0 b && ltb b 0xC0 && eqb p t)
-splits_below t p b h = rw (lt-ltb t 0xFF h) (yes_too (leb 0xA0 b && ltb b 0xC0 && eqb p t))
-  where
-    yes_too : (x : Bool) → (x && true) ≡ x
-    yes_too true = refl
-    yes_too false = refl
+-- a byte below every lead reaches no weight of leads
+pub lead-not-reached : (t : Option ℕ) (b : ℕ) → IfSome t (λ x. 0xC0 ≤ x) → b < 0xC0 → reached t b ≡ false
+lead-not-reached None b h l = refl
+lead-not-reached (Some t) b h l = lt-leb t b (omega arith)
 
 pub added-most : (w : Weights) (p b : ℕ) → added w p b ≤ 6
 unfolding added
 added-most w p b =
     omega (
       arith,
-      bit-most (not (is_trailing_byte b)),
-      bit-most (reached w.two b),
-      bit-most (reached w.three b),
-      bit-most (reached w.four b),
-      bit-most (reached w.five b),
-      bit-most (splits w.split p b),
+      from_bool-most (not (is_trailing_byte b)),
+      from_bool-most (reached w.two b),
+      from_bool-most (reached w.three b),
+      from_bool-most (reached w.four b),
+      from_bool-most (reached w.five b),
+      from_bool-most (splits w.split p b),
     )
 
 pub ascii_adds : {w : Weights} → LeadWeights w → (p b : ℕ) → b < 0x80 → added w p b ≡ 1
@@ -56,10 +51,10 @@ unfolding added
 ascii_adds {w} h p b l =
     rw (
       lt-leb 0x80 b l,
-      not-reached w.two b (omega (arith, h.two)),
-      not-reached w.three b (omega (arith, h.three)),
-      not-reached w.four b (omega (arith, h.four)),
-      not-reached w.five b (omega (arith, h.five)),
+      lead-not-reached w.two b h.two (omega arith),
+      lead-not-reached w.three b h.three (omega arith),
+      lead-not-reached w.four b h.four (omega arith),
+      lead-not-reached w.five b h.five (omega arith),
       lt-leb 0xA0 b (omega arith),
     )
 
@@ -79,9 +74,6 @@ module _ {s : List ℕ} {at : ℕ} where
   joined_more {n} {b} {x} j e =
       record { clean = λ h. record { all = each_more (j.clean (neither_left b x h)).all (sym e ∙ neither_right b x h) } }
 
-  pub joined_end : {n : ℕ} {b : Bool} (m : ℕ) → Joined s at n b → n ≤ m → m ≤ n → b ≡ false → Validated s at m
-  joined_end m j h k e = record { all = each_all m (j.clean e).all h k }
-
 module _ {w : Weights} {s : List ℕ} {at : ℕ} where
   pub blocks_none : at ≤ length s → Blocks w s at 0 0
   blocks_none h = record { inside = omega arith; valid = record { all = each_none }; counted = sym (sum_zero (added_at w s) at) }
@@ -94,9 +86,6 @@ module _ {w : Weights} {s : List ℕ} {at : ℕ} where
         valid = record { all = each_join b.valid.all v.all };
         counted = omega (arith, b.counted, e, sum_join (added_at w s) at n 64);
       }
-
-  pub whole-none : Whole w s at 0 0
-  whole-none = record { some = λ n. absurd (n refl); counted = sym (sum_zero (added_at w s) at) }
 
   -- the bytes of blocks, cut where the last character begins
   pub whole_cut :
@@ -134,9 +123,6 @@ module _ {a : ℕ → ℕ} {m at : ℕ} where
       let d : m * (n + 1) ≡ m * n + m = omega arith in
       record { counted = omega (arith, g.counted, e, sum_more a at n); most = omega (arith, g.most, d) }
 
-  pub adding_end : {n u : ℕ} (k : ℕ) → Adding a m at n u → n ≤ k → k ≤ n → u ≡ sum a at k
-  adding_end {n} k g h l = let e : n ≡ k = omega arith in g.counted ∙ ap (sum a at) e
-
 -- what n bytes add, part by part
 pub added-parts :
     (w : Weights) (s : List ℕ) (at n : ℕ)
@@ -159,14 +145,14 @@ added-parts w s at n =
     (sum_plus (λ i. L i + A i + B i) C at n
     ∙ ap (λ (x : ℕ). x + sum C at n) (sum_plus (λ i. L i + A i) B at n ∙ ap (λ (x : ℕ). x + sum B at n) (sum_plus L A at n))))
 
--- a weight for none
-pub none-reached : (t : ℕ) (s : List ℕ) (at n : ℕ) → 0xFF ≤ t → sum (reached_at t s) at n ≡ 0
-none-reached t s at n h = sum_none (reached_at t s) at n (λ i l. rw (le-ltb t 0xFF h))
+-- no weight
+pub none-reached : (s : List ℕ) (at n : ℕ) → sum (reached_at None s) at n ≡ 0
+none-reached s at n = sum_none (reached_at None s) at n (λ i l. refl)
 
-pub none_split : (t : ℕ) (s : List ℕ) (at n : ℕ) → 0xFF ≤ t → sum (split_at t s) at n ≡ 0
-none_split t s at n h = sum_none (split_at t s) at n (λ i l. rw (le-ltb t 0xFF h) (no (leb 0xA0 (get_or s (at + i) 0) && ltb (get_or s (at + i) 0) 0xC0 && eqb (get_or s (at + i - 1) 0) t)))
+pub none_split : (s : List ℕ) (at n : ℕ) → sum (split_at None s) at n ≡ 0
+none_split s at n = sum_none (split_at None s) at n (λ i l. no (leb 0xA0 (get_or s (at + i) 0) && ltb (get_or s (at + i) 0) 0xC0))
   where
-    no : (x : Bool) → bit (x && false) ≡ 0
+    no : (x : Bool) → from_bool (x && false) ≡ 0
     no true = refl
     no false = refl
 
@@ -178,15 +164,26 @@ padded_none s at = record { long = length-replicate {A = ℕ} 80 0; held = λ k 
     zero-at k (yes l) = get_or-replicate 80 k 0 0 l
     zero-at k (no l) = get_or-eq_default (replicate {A = ℕ} 80 0) 0 {n = k} (let q : length (replicate {A = ℕ} 80 0) ≡ 80 = length-replicate {A = ℕ} 80 0 in omega arith)
 
-pub padded_all : {s b : List ℕ} {at j : ℕ} (k : ℕ) → Padded s at j b → j ≤ k → k ≤ j → Padded s at k b
-padded_all {s} {b} {at} {j} k p h l = let e : j ≡ k = omega arith in rw e at p
+-- a copy between the first three cells and the rest
+module _ (xs ys zs : List ℕ) (i j : ℕ) (first : length xs ≡ i) (copied : length ys ≡ j) where
+  in_copy : (k : ℕ) → k < j → get_or (xs ++ (ys ++ zs)) (i + k) 0 ≡ get_or ys k 0
+  in_copy k h = search (arith, common_steps)
 
-pub padded_more : {s b : List ℕ} {at j x : ℕ} → Padded s at j b → j < 64 → x ≡ get_or s (at + j) 0 → Padded s at (j + 1) (set b (3 + j) x)
-padded_more {s} {b} {at} {j} {x} p h e =
+  behind_copy : (k : ℕ) → get_or (xs ++ (ys ++ zs)) (i + (j + k)) 0 ≡ get_or zs k 0
+  behind_copy k = rw (← first, ← copied) (get_or-append-add xs (ys ++ zs) (length ys + k) 0 ∙ get_or-append-add ys zs k 0)
+
+pub padded_put :
+    {s b : List ℕ} {at : ℕ} (n : ℕ) → Padded s at 0 b → n < 64 → at + n ≤ length s
+    → Padded s at n (put_mid 3 (3 + n - 3) b (take (at + n - at) (drop at s)))
+padded_put {s} {b} {at} n p h l =
+    let first : length (take 3 b) ≡ 3 = search (arith, common_steps, p.long) in
+    let copied : length (take (at + n - at) (drop at s)) ≡ n = search (arith, common_steps) in
+    let rest : (k : ℕ) → get_or (put_mid 3 (3 + n - 3) b (take (at + n - at) (drop at s))) (3 + (n + k)) 0 ≡ 0 =
+    λ k. behind_copy (take 3 b) (take (at + n - at) (drop at s)) (post_of 3 (3 + n - 3) b) 3 n first copied k ∙ search (arith, common_steps, p.zeros (3 + n + k)) in
     record {
-      long = length-set b (3 + j) x ∙ p.long;
-      held = below_more (λ (k : ℕ). get_or (set b (3 + j) x) (3 + k) 0 ≡ get_or s (at + k) 0) j (λ k i. get_or-set_other b (3 + j) (3 + k) x 0 (λ z. omega (arith, z)) ∙ p.held k i) (get_or-set_same b (3 + j) x 0 (omega (arith, p.long)) ∙ e);
-      zeros = λ k i. get_or-set_other b (3 + j) k x 0 (λ z. omega (arith, z)) ∙ p.zeros k (omega arith);
+      long = grind (arith, common_steps, p.long);
+      held = λ k i. in_copy (take 3 b) (take (at + n - at) (drop at s)) (post_of 3 (3 + n - 3) b) 3 n first copied k i ∙ unit_at s at n k (omega (arith, copied));
+      zeros = λ k i. let e : 3 + (n + (k - (3 + n))) ≡ k = omega arith in rw e at (rest (k - (3 + n)));
     }
 
 module _ {s b : List ℕ} {at j : ℕ} (x : Padded s at j b) where

@@ -308,9 +308,6 @@ whole-counted {w} {G} {s} {at} {n} {u} weighs h c = go (dec_lt 0 n)
         let z : u ≡ 0 = c.counted ∙ ap (sum (added_at w s) at) q ∙ sum_zero (added_at w s) at in
         rw (q, z) (counted_none h)
 
-pub none_weighed : {w : Weights} {s : List ℕ} {at : ℕ} → at ≤ length s → Weighed w s at 0 0
-none_weighed h = record { counts = λ G weighs. counted_none h }
-
 -- and so do the bytes of a stretch that is right in a block of its own
 module _ {s b : List ℕ} {at j : ℕ} (x : Padded s at j b) (inside : at + j ≤ length s) (small : j < 64) (border : Border b 3) (valid : Validated b 3 64) where
   zero_border : Border b (3 + j)

@@ -1,4 +1,5 @@
 -- Code units of UTF-16: surrogates, and how many units of a target a unit counts for.
+use Rattle.std.specs.Int.{from_bool}
 use Rattle.std.specs.Prelude.{ℕ, ◌+◌, ◌-◌, ◌≤◌, ◌<◌, ◌≡◌, Bool, true, false, not, ◌&&◌, List, leb, ltb, get_or, length}
 use Rattle.forms.specs.Forms.{is_surrogate}
 use Rattle.encoder.specs.declared.Target.{Target}
@@ -10,27 +11,35 @@ is_high u = leb 0xD800 u && ltb u 0xDC00
 abbrev pub is_low : ℕ → Bool
 is_low u = leb 0xDC00 u && ltb u 0xE000
 
+-- what a test counts for
 abbrev pub number : Bool → ℕ
-number true = 1
-number false = 0
+number t = from_bool t
 
 -- among k units from `at` on a low one stands behind each high one and behind no other
 pub record Paired (s : List ℕ) (at k : ℕ) : Type 0 where
   pub each : (j : ℕ) → j + 1 < k → is_high (get_or s (at + j) 0) ≡ is_low (get_or s (at + j + 1) 0)
 
 -- the bytes of FSS-UTF: two for each unit of a pair
+abbrev pub bytes_of : ℕ → ℕ
+bytes_of u = 1 + number (leb 0x80 u) + number (leb 0x800 u) - number (is_surrogate u)
+
 abbrev pub bytes_at : List ℕ → ℕ → ℕ
-bytes_at s i = let u = get_or s i 0 in 1 + number (leb 0x80 u) + number (leb 0x800 u) - number (is_surrogate u)
+bytes_at s i = bytes_of (get_or s i 0)
 
 -- the bytes of UTF-EBCDIC: two for each unit of a pair, and a fifth where the value is 40000 or more
-abbrev pub ebcdic_at : List ℕ → ℕ → ℕ
-ebcdic_at s i =
-    let u = get_or s i 0 in
+abbrev pub ebcdic_of : ℕ → ℕ
+ebcdic_of u =
     1 + number (leb 0xA0 u) + number (leb 0x400 u && not (is_surrogate u)) + number (leb 0x4000 u && not (is_surrogate u)) + number (leb 0xD8C0 u && ltb u 0xDC00)
 
+abbrev pub ebcdic_at : List ℕ → ℕ → ℕ
+ebcdic_at s i = ebcdic_of (get_or s i 0)
+
 -- the values: none for a low unit
+abbrev pub values_of : ℕ → ℕ
+values_of u = number (not (is_low u))
+
 abbrev pub values_at : List ℕ → ℕ → ℕ
-values_at s i = number (not (is_low (get_or s i 0)))
+values_at s i = values_of (get_or s i 0)
 
 -- units that begin and end with whole characters
 pub record Whole (s : List ℕ) (at k : ℕ) : Type 0 where

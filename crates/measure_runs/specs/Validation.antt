@@ -1,6 +1,7 @@
 -- Well-formed FSS-UTF told by a window of four bytes: inner, for the blocks that a measure takes at once. It knows the sequences of one to
 -- four bytes whose values strict conversion writes in UTF-16; a block with any other is left to the item reader.
-use Rattle.std.specs.Prelude.{ℕ, ◌+◌, ◌*◌, ◌-◌, ◌≤◌, ◌<◌, ◌≡◌, ◌≢◌, Bool, true, false, not, ◌&&◌, ◌||◌, List, [], leb, ltb, eqb, length, get_or}
+use Rattle.std.specs.Int.{from_bool}
+use Rattle.std.specs.Prelude.{ℕ, ◌+◌, ◌*◌, ◌-◌, ◌≤◌, ◌<◌, ◌≡◌, ◌≢◌, Bool, false, not, ◌&&◌, ◌||◌, List, [], leb, ltb, eqb, length, get_or, Option, None, Some, IfSome}
 use Rattle.std.specs.Bool.{beq}
 use Rattle.forms.specs.Form.{Form, encode}
 use Rattle.forms.specs.Forms.{fss_utf}
@@ -37,44 +38,45 @@ ill_formed_at s i = ill_formed (get_or s (i - 3) 0) (get_or s (i - 2) 0) (get_or
 pub record Validated (s : List ℕ) (at n : ℕ) : Type 0 where
   pub all : Each (λ i. ill_formed_at s i ≡ false) at n
 
-abbrev pub bit : Bool → ℕ
-bit true = 1
-bit false = 0
+-- a byte reaches a weight, if there is one
+abbrev pub reached : Option ℕ → ℕ → Bool
+reached None b = false
+reached (Some t) b = leb t b
 
--- a byte reaches a weight; FF, which is in no well-formed text, is for none
-abbrev pub reached : ℕ → ℕ → Bool
-reached t b = ltb t 0xFF && leb t b
+abbrev pub is_split : Option ℕ → ℕ → Bool
+is_split None p = false
+is_split (Some t) p = eqb p t
 
 -- the second byte of the lead t, from A0 on
-abbrev pub splits : ℕ → ℕ → ℕ → Bool
-splits t p b = leb 0xA0 b && ltb b 0xC0 && eqb p t && ltb t 0xFF
+abbrev pub splits : Option ℕ → ℕ → ℕ → Bool
+splits t p b = leb 0xA0 b && ltb b 0xC0 && is_split t p
 
 -- the units of the target that a byte adds, behind the byte p: one for a lead, one more from each weight on; and one for the second byte of
 -- the lead `split` from A0 on
 unfoldable pub added : Weights → ℕ → ℕ → ℕ
 added w p b =
-    bit (not (is_trailing_byte b)) + bit (reached w.two b) + bit (reached w.three b) + bit (reached w.four b) + bit (reached w.five b)
-    + bit (splits w.split p b)
+    from_bool (not (is_trailing_byte b)) + from_bool (reached w.two b) + from_bool (reached w.three b) + from_bool (reached w.four b) + from_bool (reached w.five b)
+    + from_bool (splits w.split p b)
 
 abbrev pub added_at : Weights → List ℕ → ℕ → ℕ
 added_at w s i = added w (get_or s (i - 1) 0) (get_or s i 0)
 
 -- its parts
 abbrev pub lead_at : List ℕ → ℕ → ℕ
-lead_at s i = bit (not (is_trailing_byte (get_or s i 0)))
+lead_at s i = from_bool (not (is_trailing_byte (get_or s i 0)))
 
-abbrev pub reached_at : ℕ → List ℕ → ℕ → ℕ
-reached_at t s i = bit (reached t (get_or s i 0))
+abbrev pub reached_at : Option ℕ → List ℕ → ℕ → ℕ
+reached_at t s i = from_bool (reached t (get_or s i 0))
 
-abbrev pub split_at : ℕ → List ℕ → ℕ → ℕ
-split_at t s i = bit (splits t (get_or s (i - 1) 0) (get_or s i 0))
+abbrev pub split_at : Option ℕ → List ℕ → ℕ → ℕ
+split_at t s i = from_bool (splits t (get_or s (i - 1) 0) (get_or s i 0))
 
 -- weights that leads alone reach
 pub record LeadWeights (w : Weights) : Type 0 where
-  pub two : 0xC0 ≤ w.two
-  pub three : 0xC0 ≤ w.three
-  pub four : 0xC0 ≤ w.four
-  pub five : 0xC0 ≤ w.five
+  pub two : IfSome w.two (λ t. 0xC0 ≤ t)
+  pub three : IfSome w.three (λ t. 0xC0 ≤ t)
+  pub four : IfSome w.four (λ t. 0xC0 ≤ t)
+  pub five : IfSome w.five (λ t. 0xC0 ≤ t)
 
 -- the values of sequences of two, three and four bytes
 abbrev pub value2 : ℕ → ℕ → ℕ
@@ -130,14 +132,14 @@ pub record Padded (s : List ℕ) (at j : ℕ) (b : List ℕ) : Type 0 where
   pub zeros : (k : ℕ) → 3 + j ≤ k → get_or b k 0 ≡ 0
 
 -- the weights of each target
-abbrev pub weights_of : ℕ → ℕ → ℕ → ℕ → ℕ → Weights
+abbrev pub weights_of : Option ℕ → Option ℕ → Option ℕ → Option ℕ → Option ℕ → Weights
 weights_of a b c d e = record { two = a; three = b; four = c; five = d; split = e }
 
 abbrev pub utf_ebcdic_weights : Weights
-utf_ebcdic_weights = weights_of 0xC3 0xD0 0xE4 0xF1 0xC2
+utf_ebcdic_weights = weights_of (Some 0xC3) (Some 0xD0) (Some 0xE4) (Some 0xF1) (Some 0xC2)
 
 abbrev pub utf16_weights : Weights
-utf16_weights = weights_of 0xF0 0xFF 0xFF 0xFF 0xFF
+utf16_weights = weights_of (Some 0xF0) None None None None
 
 abbrev pub ucs4_weights : Weights
-ucs4_weights = weights_of 0xFF 0xFF 0xFF 0xFF 0xFF
+ucs4_weights = weights_of None None None None None

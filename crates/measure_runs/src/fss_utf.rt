@@ -1,11 +1,12 @@
 // From FSS-UTF, in blocks.
-ghost use Rattle.std.specs.Prelude.{◌+◌, ◌<◌, ◌≤◌, length};
+ghost use Rattle.std.specs.Prelude.{IfSome, ◌+◌, ◌<◌, ◌≤◌, length};
 ghost use Rattle.forms.specs.Forms.{fss_utf, strictly};
 ghost use Rattle.laws.proofs.Runs.{Counted};
 ghost use Rattle.encoder.specs.Target.{target_form};
 ghost use Rattle.measure_runs.specs.Validation.{Blocks, Whole, Weighed, LeadWeights, Padded};
 
-use crate::fss_utf_validation::Weights;
+use crate::fss_utf_validation::{Weights, ill_formed64, last_lead, trails};
+use crate::fss_utf_weights::{added_few, added64};
 use encoder::Target;
 use types::Run;
 
@@ -16,54 +17,39 @@ fn valid_blocks(weights: Weights, src: &[u8], at: usize) -> Run
 {
     let mut length: usize = 0;
     let mut units: usize = 0;
+    // `chunks_exact` gives a block without the three bytes before it.
     while 64 <= src.len() - (at + length) {
         let from = at + length;
-        if crate::fss_utf_validation::ill_formed64(src, from) {
+        if ill_formed64(src, from) {
             return Run { length, units };
         }
-        units += crate::fss_utf_weights::added64(weights, src, from);
+        units += added64(weights, src, from);
         length += 64;
     }
     Run { length, units }
 }
 
-// The whole characters of such blocks: up to where the last one begins.
-fn valid_run(weights: Weights, src: &[u8], at: usize) -> Run
+// The whole characters of such blocks, if there are any: up to where the last one begins.
+fn valid_run(weights: Weights, src: &[u8], at: usize) -> Option<Run>
     requires { (at < length src.now) × (length src.now ≤ 65536) }
-    ensures { Whole weights src.now at result.length result.units }
+    ensures { IfSome result (λ run. Whole weights src.now at run.length run.units) }
 {
     if at < 3 {
-        return Run {
-            length: 0,
-            units: 0,
-        };
+        return None;
     }
-    if crate::fss_utf_validation::trails(src[at]) {
-        return Run {
-            length: 0,
-            units: 0,
-        };
+    if trails(src[at]) {
+        return None;
     }
     let blocks = valid_blocks(weights, src, at);
-    let length = blocks.length;
-    let units = blocks.units;
-    if length == 0 {
-        return Run {
-            length: 0,
-            units: 0,
-        };
+    if blocks.length == 0 {
+        return None;
     }
-    let last = crate::fss_utf_validation::last_lead(src, at, length);
-    if last == 0 {
-        return Run {
-            length: 0,
-            units: 0,
-        };
-    }
-    Run {
+    let last = last_lead(src, at, blocks.length)?;
+    let cut = added_few(weights, src, at + last, blocks.length - last);
+    Some(Run {
         length: last,
-        units: units - crate::fss_utf_weights::added_few(weights, src, at + last, length - last),
-    }
+        units: blocks.units - cut,
+    })
 }
 
 // How many bytes from an offset on go into one block: all that are left, or up to where the last character begins.
@@ -75,107 +61,83 @@ fn block_length(src: &[u8], at: usize) -> usize
     if left < 64 {
         return left;
     }
-    crate::fss_utf_validation::last_lead(src, at, 64)
+    last_lead(src, at, 64).unwrap_or(0)
 }
 
-// So many bytes, put into a block of their own with zeros behind them: 16 at once, as far as they go.
+// So many bytes, put into a block of their own with zeros behind them.
 fn put(src: &[u8], at: usize, count: usize, block: &mut [u8])
     requires { (count < 64) × (at + count ≤ length src.now) × Padded src.now at 0 block.old }
     ensures { Padded src.now at count block.new }
 {
-    let mut i: usize = 0;
-    while 16 <= count - i {
-        let mut j: usize = 0;
-        while j < 16 {
-            let k = i + j;
-            block[3 + k] = src[at + k];
-            j += 1;
-        }
-        i += 16;
-    }
-    while i < count {
-        block[3 + i] = src[at + i];
-        i += 1;
-    }
+    block[3..3 + count].copy_from_slice(&src[at..at + count]);
 }
 
 // Fewer bytes than a block has, or the first of a text: a zero is a character too, so that they are tested and counted as a block is.
-fn valid_few(weights: Weights, src: &[u8], at: usize) -> Run
+fn valid_few(weights: Weights, src: &[u8], at: usize) -> Option<Run>
     requires { (at < length src.now) × LeadWeights weights }
-    ensures { Weighed weights src.now at result.length result.units }
+    ensures { IfSome result (λ run. Weighed weights src.now at run.length run.units) }
 {
     let count = block_length(src, at);
     let mut block = [0u8; 80];
     put(src, at, count, &mut block);
-    if crate::fss_utf_validation::trails(block[3]) {
-        return Run {
-            length: 0,
-            units: 0,
-        };
+    if trails(block[3]) {
+        return None;
     }
-    if crate::fss_utf_validation::ill_formed64(&block, 3) {
-        return Run {
-            length: 0,
-            units: 0,
-        };
+    if ill_formed64(&block, 3) {
+        return None;
     }
-    Run {
+    Some(Run {
         length: count,
-        units: crate::fss_utf_weights::added64(weights, &block, 3) - (64 - count),
-    }
+        units: added64(weights, &block, 3) - (64 - count),
+    })
 }
 
-fn valid(weights: Weights, src: &[u8], at: usize) -> Run
+fn valid(weights: Weights, src: &[u8], at: usize) -> Option<Run>
     requires { (at < length src.now) × (length src.now ≤ 65536) × LeadWeights weights }
-    ensures { Weighed weights src.now at result.length result.units }
+    ensures { IfSome result (λ run. Weighed weights src.now at run.length run.units) }
 {
-    let run = valid_run(weights, src, at);
-    let length = run.length;
-    if length != 0 {
-        return run;
+    match valid_run(weights, src, at) {
+        Some(run) => Some(run),
+        None => valid_few(weights, src, at),
     }
-    valid_few(weights, src, at)
 }
 
 // What each target adds. FSS-UTF is no target of a conversion from itself.
-fn weighed(target: Target, src: &[u8], at: usize) -> Run
+fn weighed(target: Target, src: &[u8], at: usize) -> Option<Run>
     requires { (at < length src.now) × (length src.now ≤ 65536) }
-    ensures { Counted fss_utf (strictly (target_form target)) src.now at result.length result.units }
+    ensures { IfSome result (λ run. Counted fss_utf (strictly (target_form target)) src.now at run.length run.units) }
 {
     match target {
-        Target::FssUtf => Run {
-            length: 0,
-            units: 0,
-        },
+        Target::FssUtf => None,
         Target::UtfEbcdic => valid(
             Weights {
-                two: 0xC3,
-                three: 0xD0,
-                four: 0xE4,
-                five: 0xF1,
-                split: 0xC2,
+                two: Some(0xC3),
+                three: Some(0xD0),
+                four: Some(0xE4),
+                five: Some(0xF1),
+                split: Some(0xC2),
             },
             src,
             at,
         ),
         Target::Utf16 => valid(
             Weights {
-                two: 0xF0,
-                three: 0xFF,
-                four: 0xFF,
-                five: 0xFF,
-                split: 0xFF,
+                two: Some(0xF0),
+                three: None,
+                four: None,
+                five: None,
+                split: None,
             },
             src,
             at,
         ),
         Target::Ucs4 => valid(
             Weights {
-                two: 0xFF,
-                three: 0xFF,
-                four: 0xFF,
-                five: 0xFF,
-                split: 0xFF,
+                two: None,
+                three: None,
+                four: None,
+                five: None,
+                split: None,
             },
             src,
             at,
@@ -196,5 +158,8 @@ pub fn count(target: Target, src: &[u8], at: usize) -> Run
             };
         }
     }
-    weighed(target, src, at)
+    weighed(target, src, at).unwrap_or(Run {
+        length: 0,
+        units: 0,
+    })
 }

@@ -2,43 +2,16 @@
 ghost use Rattle.std.specs.Prelude.{◌+◌, ◌≤◌, length};
 ghost use Rattle.laws.proofs.Blocks.{AtMost};
 
-fn or64(src: &[u8], at: usize) -> u8
-    requires { at + 64 ≤ length src.now }
-    ensures { AtMost src.now at 64 result }
-{
-    let mut joined: u8 = 0;
-    let mut i: usize = 0;
-    while i < 64 {
-        joined = joined | src[at + i];
-        i += 1;
-    }
-    joined
-}
-
-fn or16(src: &[u8], at: usize) -> u8
-    requires { at + 16 ≤ length src.now }
-    ensures { AtMost src.now at 16 result }
-{
-    let mut joined: u8 = 0;
-    let mut i: usize = 0;
-    while i < 16 {
-        joined = joined | src[at + i];
-        i += 1;
-    }
-    joined
-}
-
-fn or_few(src: &[u8], at: usize, count: usize) -> u8
+// The bytes joined by OR: none of them exceeds it. Over the type of the unit it would be no plainer: a trait would have to say what OR gives.
+fn joined(src: &[u8], at: usize, count: usize) -> u8
     requires { at + count ≤ length src.now }
     ensures { AtMost src.now at count result }
 {
-    let mut joined: u8 = 0;
-    let mut i: usize = 0;
-    while i < count {
-        joined = joined | src[at + i];
-        i += 1;
+    let mut most: u8 = 0;
+    for byte in &src[at..at + count] {
+        most |= *byte;
     }
-    joined
+    most
 }
 
 // How many bytes from an offset on are ASCII, in whole blocks.
@@ -47,14 +20,15 @@ fn whole_blocks(src: &[u8], at: usize) -> usize
     ensures { (at + result ≤ length src.now) × AtMost src.now at result 127 }
 {
     let mut length: usize = 0;
+    // `chunks_exact` is no plainer: the second loop begins where the first ends, and the promise is by places in the text.
     while 64 <= src.len() - (at + length) {
-        if 128 <= or64(src, at + length) {
+        if 128 <= joined(src, at + length, 64) {
             break;
         }
         length += 64;
     }
     while 16 <= src.len() - (at + length) {
-        if 128 <= or16(src, at + length) {
+        if 128 <= joined(src, at + length, 16) {
             break;
         }
         length += 16;
@@ -72,7 +46,7 @@ pub fn ascii_length(src: &[u8], at: usize) -> usize
     if 16 <= left {
         return length;
     }
-    if 128 <= or_few(src, at + length, left) {
+    if 128 <= joined(src, at + length, left) {
         return length;
     }
     length + left

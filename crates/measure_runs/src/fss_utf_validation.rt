@@ -1,9 +1,10 @@
 // FSS-UTF tested in blocks of 64 bytes, each byte with the three before it: `specs/Validation` has the rule, and the weights that count
 // what the blocks become.
-ghost use Rattle.std.specs.Prelude.{◌≡◌, false, ◌+◌, ◌<◌, ◌≤◌, length, get_or};
+ghost use Rattle.std.specs.Prelude.{IfSome, ◌≡◌, false, ◌+◌, ◌<◌, ◌≤◌, length, get_or};
 ghost use Rattle.measure_runs.specs.Validation.{Validated, ill_formed, is_trailing_byte};
 
 // Whether a byte is wrong behind three others: joined without branches, so that a block of them is tested at once.
+#[tactic(auto, unfolding(crate::specs::Validation::ill_formed))]
 fn ill_formed(p3: u8, p2: u8, p1: u8, byte: u8) -> bool
     ensures { result ≡ ill_formed p3 p2 p1 byte }
 {
@@ -23,11 +24,9 @@ pub fn ill_formed64(src: &[u8], at: usize) -> bool
     ensures { result ≡ false → Validated src.now at 64 }
 {
     let mut joined = false;
-    let mut i: usize = 0;
-    while i < 64 {
+    for i in 0..64 {
         let k = at + i;
-        joined = joined | ill_formed(src[k - 3], src[k - 2], src[k - 1], src[k]);
-        i += 1;
+        joined |= ill_formed(src[k - 3], src[k - 2], src[k - 1], src[k]);
     }
     joined
 }
@@ -38,29 +37,25 @@ pub fn trails(byte: u8) -> bool
     (byte >= 0x80) & (byte < 0xC0)
 }
 
-// Where the last character of the bytes begins, counted from the offset; 0 where none begins behind it.
-pub fn last_lead(src: &[u8], at: usize, count: usize) -> usize
+// Where the last character that begins behind the first byte begins, counted from the offset.
+pub fn last_lead(src: &[u8], at: usize, count: usize) -> Option<usize>
     requires { (0 < count) × (at + count ≤ length src.now) }
-    ensures { (result < count) × ((result ≡ 0 → ⊥) → is_trailing_byte (get_or src.now (at + result) 0) ≡ false) }
+    ensures { IfSome result (λ last. (0 < last) × (last < count) × (is_trailing_byte (get_or src.now (at + last) 0) ≡ false)) }
 {
-    let mut last = count - 1;
-    while 0 < last {
-        if trails(src[at + last]) {
-            last -= 1;
-        } else {
-            return last;
+    for last in (1..count).rev() {
+        if !trails(src[at + last]) {
+            return Some(last);
         }
     }
-    0
+    None
 }
 
-// From which byte on a lead adds a second, third, fourth and fifth unit; and the lead whose second byte adds one from A0 on. FF, which
-// stands in no well-formed text, is for none.
+// From which byte on a lead adds a second, third, fourth and fifth unit; and the lead whose second byte adds one from A0 on.
 #[derive(Clone, Copy)]
 pub struct Weights {
-    pub two: u8,
-    pub three: u8,
-    pub four: u8,
-    pub five: u8,
-    pub split: u8,
+    pub two: Option<u8>,
+    pub three: Option<u8>,
+    pub four: Option<u8>,
+    pub five: Option<u8>,
+    pub split: Option<u8>,
 }

@@ -1,34 +1,33 @@
 // The code units that the bytes of well-formed FSS-UTF add in a target.
-ghost use Rattle.std.specs.Prelude.{◌≡◌, ◌+◌, ◌≤◌, length};
+ghost use Rattle.std.specs.Prelude.{ℕ, Bool, ◌≡◌, ◌+◌, ◌-◌, ◌≤◌, length, get_or};
+ghost use Rattle.std.specs.Int.{from_bool};
 ghost use Rattle.laws.proofs.Runs.{sum};
-ghost use Rattle.measure_runs.specs.Validation.{bit, added, added_at, lead_at, reached_at, split_at};
+ghost use Rattle.measure_runs.specs.Validation.{reached, splits, added, added_at, lead_at, reached_at, split_at};
 
-use crate::fss_utf_validation::Weights;
+use crate::fss_utf_validation::{Weights, trails};
 
-fn one_if(x: bool) -> u8
-    ensures { (result ≡ bit x) × (result ≤ 1) }
+fn reaches(weight: Option<u8>, byte: u8) -> bool
+    ensures { result ≡ reached weight byte }
 {
-    if x { 1 } else { 0 }
+    weight.is_some_and(|weight| byte >= weight)
 }
 
+fn splits(split: Option<u8>, before: u8, byte: u8) -> bool
+    ensures { result ≡ splits split before byte }
+{
+    (byte >= 0xA0) & (byte < 0xC0) & split.is_some_and(|split| before == split)
+}
+
+#[tactic(auto, unfolding(crate::specs::Validation::added))]
 fn added_by(weights: Weights, before: u8, byte: u8) -> u8
     ensures { result ≡ added weights before byte }
 {
-    let lead = one_if(!((byte >= 0x80) & (byte < 0xC0)));
-    let split = one_if(
-        (byte >= 0xA0) & (byte < 0xC0) & (before == weights.split) & (weights.split < 0xFF),
-    );
-    lead + one_if((weights.two < 0xFF) & (byte >= weights.two))
-        + one_if((weights.three < 0xFF) & (byte >= weights.three))
-        + one_if((weights.four < 0xFF) & (byte >= weights.four))
-        + one_if((weights.five < 0xFF) & (byte >= weights.five))
-        + split
-}
-
-fn wide(x: u8) -> usize
-    ensures { result ≡ x }
-{
-    x as usize
+    u8::from(!trails(byte))
+        + u8::from(reaches(weights.two, byte))
+        + u8::from(reaches(weights.three, byte))
+        + u8::from(reaches(weights.four, byte))
+        + u8::from(reaches(weights.five, byte))
+        + u8::from(splits(weights.split, before, byte))
 }
 
 pub fn added_few(weights: Weights, src: &[u8], at: usize, count: usize) -> usize
@@ -36,72 +35,66 @@ pub fn added_few(weights: Weights, src: &[u8], at: usize, count: usize) -> usize
     ensures { result ≡ sum (added_at weights src.now) at count }
 {
     let mut units: usize = 0;
-    let mut i: usize = 0;
-    while i < count {
+    for i in 0..count {
         let k = at + i;
-        units += wide(added_by(weights, src[k - 1], src[k]));
-        i += 1;
+        units += usize::from(added_by(weights, src[k - 1], src[k]));
     }
     units
 }
 
-// The parts of a block's sum, each in a byte, so that many are added at once; and none for a weight that the target does not have.
+// How many bytes of a block pass a test with the byte before them. The count is a byte itself, so that many are added at once.
+fn count64<F: Fn(u8, u8) -> bool>(test: F, src: &[u8], at: usize) -> u8
+    requires callable { F.IsAlwaysCallable test }
+    requires inside { (1 ≤ at) × (at + 64 ≤ length src.now) }
+    ensures { (t : ℕ → ℕ → Bool) → ((p b : ℕ) (r : Bool) → F.post test p b r → r ≡ t p b) → result ≡ sum (λ i. from_bool (t (get_or src.now (i - 1) 0) (get_or src.now i 0))) at 64 }
+{
+    let mut count: u8 = 0;
+    for i in 0..64 {
+        let k = at + i;
+        count += u8::from(test(src[k - 1], src[k]));
+    }
+    count
+}
+
 fn leads64(src: &[u8], at: usize) -> u8
-    requires { at + 64 ≤ length src.now }
+    requires { (1 ≤ at) × (at + 64 ≤ length src.now) }
     ensures { result ≡ sum (lead_at src.now) at 64 }
 {
-    let mut units: u8 = 0;
-    let mut i: usize = 0;
-    while i < 64 {
-        let byte = src[at + i];
-        units += one_if(!((byte >= 0x80) & (byte < 0xC0)));
-        i += 1;
-    }
-    units
+    count64(|_, byte| !trails(byte), src, at)
 }
 
-fn reached64(weight: u8, src: &[u8], at: usize) -> u8
-    requires { at + 64 ≤ length src.now }
+fn reached64(weight: Option<u8>, src: &[u8], at: usize) -> u8
+    requires { (1 ≤ at) × (at + 64 ≤ length src.now) }
     ensures { result ≡ sum (reached_at weight src.now) at 64 }
 {
-    if 0xFF <= weight {
-        return 0;
+    match weight {
+        Some(weight) => count64(|_, byte| byte >= weight, src, at),
+        None => 0,
     }
-    let mut units: u8 = 0;
-    let mut i: usize = 0;
-    while i < 64 {
-        units += one_if(src[at + i] >= weight);
-        i += 1;
-    }
-    units
 }
 
-fn split64(split: u8, src: &[u8], at: usize) -> u8
+fn split64(split: Option<u8>, src: &[u8], at: usize) -> u8
     requires { (1 ≤ at) × (at + 64 ≤ length src.now) }
     ensures { result ≡ sum (split_at split src.now) at 64 }
 {
-    if 0xFF <= split {
-        return 0;
+    match split {
+        Some(split) => count64(
+            |before, byte| (byte >= 0xA0) & (byte < 0xC0) & (before == split),
+            src,
+            at,
+        ),
+        None => 0,
     }
-    let mut units: u8 = 0;
-    let mut i: usize = 0;
-    while i < 64 {
-        let k = at + i;
-        let byte = src[k];
-        units += one_if((byte >= 0xA0) & (byte < 0xC0) & (src[k - 1] == split));
-        i += 1;
-    }
-    units
 }
 
 pub fn added64(weights: Weights, src: &[u8], at: usize) -> usize
     requires { (1 ≤ at) × (at + 64 ≤ length src.now) }
     ensures { result ≡ sum (added_at weights src.now) at 64 }
 {
-    wide(leads64(src, at))
-        + wide(reached64(weights.two, src, at))
-        + wide(reached64(weights.three, src, at))
-        + wide(reached64(weights.four, src, at))
-        + wide(reached64(weights.five, src, at))
-        + wide(split64(weights.split, src, at))
+    usize::from(leads64(src, at))
+        + usize::from(reached64(weights.two, src, at))
+        + usize::from(reached64(weights.three, src, at))
+        + usize::from(reached64(weights.four, src, at))
+        + usize::from(reached64(weights.five, src, at))
+        + usize::from(split64(weights.split, src, at))
 }

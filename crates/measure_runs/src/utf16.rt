@@ -1,74 +1,52 @@
 // From UTF-16, in blocks.
-ghost use Rattle.std.specs.Prelude.{◌≡◌, ◌+◌, ◌<◌, ◌≤◌, length};
+ghost use Rattle.std.specs.Prelude.{IfSome, ℕ, ◌≡◌, ◌+◌, ◌<◌, ◌≤◌, length, get_or};
 ghost use Rattle.forms.specs.Forms.{utf16, strictly};
 ghost use Rattle.encoder.specs.Target.{target_form};
 ghost use Rattle.laws.proofs.Blocks.{NoNonCharacters};
 ghost use Rattle.laws.proofs.Runs.{Counted, sum};
-ghost use Rattle.measure_runs.specs.Utf16Units.{number, bytes_at, ebcdic_at, values_at, plain_of, Whole};
+ghost use Rattle.measure_runs.specs.Utf16Units.{bytes_of, ebcdic_of, values_of, plain_of, Whole};
 
+use crate::utf16_blocks::{high, joined, low, non_characters, surrogate, unpaired};
 use encoder::Target;
 use types::Run;
 
-fn number(test: bool) -> u16
-    ensures { (result ≡ number test) × (result ≤ 1) }
+// The bytes of FSS-UTF: two for each unit of a pair.
+fn fss_utf_bytes(unit: u16) -> u16
+    ensures { (result ≡ bytes_of unit) × (result ≤ 3) }
 {
-    if test { 1 } else { 0 }
-}
-
-fn wide(count: u16) -> usize
-    ensures { result ≡ count }
-{
-    count as usize
-}
-
-// The bytes of FSS-UTF: two for each unit of a pair. The count is as wide as a unit: vector code wants that.
-fn bytes(src: &[u16], at: usize, count: usize) -> u16
-    requires { (count ≤ 128) × (at + count ≤ length src.now) }
-    ensures { result ≡ sum (bytes_at src.now) at count }
-{
-    let mut sum: u16 = 0;
-    let mut k: usize = 0;
-    while k < count {
-        let unit = src[at + k];
-        sum += 1 + number(unit >= 0x80) + number(unit >= 0x800)
-            - number(crate::utf16_blocks::surrogate(unit));
-        k += 1;
-    }
-    sum
+    1 + u16::from(unit >= 0x80) + u16::from(unit >= 0x800) - u16::from(surrogate(unit))
 }
 
 // The bytes of UTF-EBCDIC: two for each unit of a pair, and a fifth where the value is 40000 or more.
-fn ebcdic_bytes(src: &[u16], at: usize, count: usize) -> u16
-    requires { (count ≤ 128) × (at + count ≤ length src.now) }
-    ensures { result ≡ sum (ebcdic_at src.now) at count }
+fn utf_ebcdic_bytes(unit: u16) -> u16
+    ensures { (result ≡ ebcdic_of unit) × (result ≤ 5) }
 {
-    let mut sum: u16 = 0;
-    let mut k: usize = 0;
-    while k < count {
-        let unit = src[at + k];
-        let whole = !crate::utf16_blocks::surrogate(unit);
-        sum += 1
-            + number(unit >= 0xA0)
-            + number((unit >= 0x400) & whole)
-            + number((unit >= 0x4000) & whole)
-            + number((unit >= 0xD8C0) & (unit < 0xDC00));
-        k += 1;
-    }
-    sum
+    let whole = !surrogate(unit);
+    1 + u16::from(unit >= 0xA0)
+        + u16::from((unit >= 0x400) & whole)
+        + u16::from((unit >= 0x4000) & whole)
+        + u16::from((unit >= 0xD8C0) & (unit < 0xDC00))
 }
 
 // The values: a low unit counts for none.
-fn values(src: &[u16], at: usize, count: usize) -> u16
-    requires { (count ≤ 128) × (at + count ≤ length src.now) }
-    ensures { result ≡ sum (values_at src.now) at count }
+fn values(unit: u16) -> u16
+    ensures { (result ≡ values_of unit) × (result ≤ 1) }
 {
-    let mut sum: u16 = 0;
-    let mut k: usize = 0;
-    while k < count {
-        sum += number(!crate::utf16_blocks::low(src[at + k]));
-        k += 1;
+    u16::from(!low(unit))
+}
+
+// What the units of a block count for, no unit more than five. The sum is as wide as a unit: vector code wants that.
+fn sum<F: Fn(u16) -> u16>(counted: F, src: &[u16], at: usize, count: usize) -> usize
+    requires callable { F.IsAlwaysCallable counted }
+    requires few { (u r : ℕ) → F.post counted u r → r ≤ 5 }
+    requires inside { (count ≤ 128) × (at + count ≤ length src.now) }
+    ensures { (a : ℕ → ℕ) → ((u r : ℕ) → F.post counted u r → r ≡ a u) → result ≡ sum (λ i. a (get_or src.now i 0)) at count }
+{
+    let mut units: u16 = 0;
+    for unit in &src[at..at + count] {
+        units += counted(*unit);
     }
-    sum
+    usize::from(units)
 }
 
 fn plain(target: Target) -> u16
@@ -83,65 +61,52 @@ fn plain(target: Target) -> u16
 }
 
 // Whole characters, none of them FFFE or FFFF. UTF-16 is no target.
-fn whole(target: Target, src: &[u16], at: usize, count: usize) -> Run
+fn whole(target: Target, src: &[u16], at: usize, count: usize) -> Option<usize>
     requires { (count ≤ 128) × (Whole src.now at count) × NoNonCharacters src.now at count }
-    ensures { Counted utf16 (strictly (target_form target)) src.now at result.length result.units }
+    ensures { IfSome result (Counted utf16 (strictly (target_form target)) src.now at count) }
 {
     match target {
-        Target::FssUtf => Run {
-            length: count,
-            units: wide(bytes(src, at, count)),
-        },
-        Target::UtfEbcdic => Run {
-            length: count,
-            units: wide(ebcdic_bytes(src, at, count)),
-        },
-        Target::Utf16 => Run {
-            length: 0,
-            units: 0,
-        },
-        Target::Ucs4 => Run {
-            length: count,
-            units: wide(values(src, at, count)),
-        },
+        Target::FssUtf => Some(sum(fss_utf_bytes, src, at, count)),
+        Target::UtfEbcdic => Some(sum(utf_ebcdic_bytes, src, at, count)),
+        Target::Utf16 => None,
+        Target::Ucs4 => Some(sum(values, src, at, count)),
     }
 }
 
-// A block, of which so many neighbours are looked at: nothing where one is unpaired, or a unit FFFE or FFFF. A high unit at its end is left for the next block.
-fn block(target: Target, src: &[u16], at: usize, count: usize, pairs: usize) -> Run
+// A block, of which so many neighbours are looked at, unless one is unpaired, or a unit FFFE or FFFF. A high unit at its end is left for the next block.
+fn block(target: Target, src: &[u16], at: usize, count: usize, pairs: usize) -> Option<Run>
     requires { (0 < count) × (count ≤ 128) × (count ≤ pairs + 1) × (at + count ≤ length src.now) × (at + pairs < length src.now) }
-    ensures { Counted utf16 (strictly (target_form target)) src.now at result.length result.units }
+    ensures { IfSome result (λ run. (count ≤ run.length + 1) × Counted utf16 (strictly (target_form target)) src.now at run.length run.units) }
 {
-    let most = crate::utf16_blocks::joined(src, at, count);
+    let most = joined(src, at, count);
     if most < plain(target) {
-        return Run {
+        return Some(Run {
             length: count,
             units: count,
-        };
+        });
     }
-    if crate::utf16_blocks::low(src[at]) {
-        return Run {
-            length: 0,
-            units: 0,
-        };
+    if low(src[at]) {
+        return None;
     }
-    if crate::utf16_blocks::unpaired(src, at, pairs) {
-        return Run {
-            length: 0,
-            units: 0,
-        };
+    if unpaired(src, at, pairs) {
+        return None;
     }
-    if crate::utf16_blocks::non_characters(src, at, count, most) {
-        return Run {
-            length: 0,
-            units: 0,
-        };
+    if non_characters(src, at, count, most) {
+        return None;
     }
     let last = count - 1;
-    if crate::utf16_blocks::high(src[at + last]) {
-        return whole(target, src, at, last);
+    if high(src[at + last]) {
+        let units = whole(target, src, at, last)?;
+        return Some(Run {
+            length: last,
+            units,
+        });
     }
-    whole(target, src, at, count)
+    let units = whole(target, src, at, count)?;
+    Some(Run {
+        length: count,
+        units,
+    })
 }
 
 // The blocks from an offset on, up to one with a fault.
@@ -151,26 +116,21 @@ pub fn count(target: Target, src: &[u16], at: usize) -> Run
 {
     let mut length: usize = 0;
     let mut units: usize = 0;
+    // A block may be a unit shorter than the one before.
     while 128 < src.len() - at - length {
-        let run = block(target, src, at + length, 128, 128);
-        let passed = run.length;
-        if passed == 0 {
-            return Run {
-                length: length,
-                units: units,
-            };
-        }
-        length += passed;
+        let Some(run) = block(target, src, at + length, 128, 128) else {
+            return Run { length, units };
+        };
+        length += run.length;
         units += run.units;
     }
     let rest = src.len() - at - length;
     if rest == 0 {
-        return Run {
-            length: length,
-            units: units,
-        };
+        return Run { length, units };
     }
-    let run = block(target, src, at + length, rest, rest - 1);
+    let Some(run) = block(target, src, at + length, rest, rest - 1) else {
+        return Run { length, units };
+    };
     Run {
         length: length + run.length,
         units: units + run.units,

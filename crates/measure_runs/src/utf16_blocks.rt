@@ -35,10 +35,8 @@ pub fn joined(src: &[u16], at: usize, count: usize) -> u16
     ensures { AtMost src.now at count result }
 {
     let mut most: u16 = 0;
-    let mut k: usize = 0;
-    while k < count {
-        most = most | src[at + k];
-        k += 1;
+    for unit in &src[at..at + count] {
+        most |= *unit;
     }
     most
 }
@@ -49,10 +47,8 @@ pub fn unpaired(src: &[u16], at: usize, pairs: usize) -> bool
     ensures { result ≡ false → Paired src.now at (pairs + 1) }
 {
     let mut bad = false;
-    let mut k: usize = 0;
-    while k < pairs {
-        bad = bad | (high(src[at + k]) != low(src[at + k + 1]));
-        k += 1;
+    for k in 0..pairs {
+        bad |= high(src[at + k]) != low(src[at + k + 1]);
     }
     bad
 }
@@ -66,23 +62,20 @@ pub fn non_characters(src: &[u16], at: usize, count: usize, most: u16) -> bool
         return false;
     }
     let mut some = false;
-    let mut k: usize = 0;
-    while k < count {
-        some = some | non_character(src[at + k]);
-        k += 1;
+    for unit in &src[at..at + count] {
+        some |= non_character(*unit);
     }
     some
 }
 
+// As `non_characters`: a loop over a test passed in would be no shorter than the loop.
 pub fn surrogates(src: &[u16], at: usize, count: usize) -> bool
     requires { at + count ≤ length src.now }
     ensures { result ≡ false → NoSurrogates src.now at count }
 {
     let mut some = false;
-    let mut k: usize = 0;
-    while k < count {
-        some = some | surrogate(src[at + k]);
-        k += 1;
+    for unit in &src[at..at + count] {
+        some |= surrogate(*unit);
     }
     some
 }

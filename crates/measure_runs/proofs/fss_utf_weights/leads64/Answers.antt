@@ -1,9 +1,6 @@
-use Rattle.measure_runs.proofs.Validating.{adding_none, adding_more}
-use native.Mathlib.Omega.{arith}
+use Rattle.std.proofs.Common.{rules, not}
+use Rattle.measure_runs.specs.Validation.{is_trailing_byte}
 use Rattle.measure_runs.proofs.fss_utf_weights.leads64.Goals as goal
 
-pub loop-i-init : goal.loop-i-init
-loop-i-init c = (omega arith, adding_none)
-
-pub loop-i-preserved : goal.loop-i-preserved
-loop-i-preserved c = (omega arith, adding_more c.loop-i.invariant.1 c.one_if-units.ensures.0 c.one_if-units.ensures.1)
+pub returns : goal.returns
+returns c = c.count64.ensures (λ p b. not (is_trailing_byte b)) (λ p b r e. search rules)

@@ -1,7 +1,6 @@
-use mathlib.Core.Path.{refl}
-use native.Mathlib.Omega.{arith}
 use Rattle.laws.proofs.Blocks.{at-most-or}
+use Rattle.measure_runs.proofs.Slices.{unit_at}
 use Rattle.measure_runs.proofs.utf16_blocks.joined.Goals as goal
 
-pub loop-k-preserved : goal.loop-k-preserved
-loop-k-preserved c = (omega arith, at-most-or _ c.loop-k.invariant.1 refl)
+pub loop-unit-preserved : goal.loop-unit-preserved
+loop-unit-preserved c = at-most-or _ c.loop-unit.invariant (unit_at c.args.src.now c.args.at c.args.count c.loop-unit.unit-index c.loop-unit-test.true)

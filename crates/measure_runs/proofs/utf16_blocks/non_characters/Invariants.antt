@@ -1,10 +1,6 @@
-use Prim.Native.Nat.{◌-◌, ◌≤◌}
 use Rattle.forms.specs.Forms.{is_non_character}
 use Rattle.measure_runs.proofs.Utf16Tests.{NoneUnless}
 use Rattle.measure_runs.proofs.utf16_blocks.non_characters.Given as goal
 
-abbrev pub invariant-loop-k : goal.invariant-loop-k
-invariant-loop-k l = (l.k ≤ l.count) × NoneUnless is_non_character l.some l.src l.at l.k
-
-abbrev pub decreases-loop-k : goal.decreases-loop-k
-decreases-loop-k l = l.count - l.k
+abbrev pub invariant-loop-unit : goal.invariant-loop-unit
+invariant-loop-unit l = NoneUnless is_non_character l.some l.fn.src l.at l.unit-index
