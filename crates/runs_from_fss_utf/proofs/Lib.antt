@@ -1,2 +1,3 @@
 pub mod KnownBytes
 pub mod ShortRuns
+pub mod WideRuns

@@ -2,17 +2,17 @@
 -- has one unit for such a character.
 use Prim.Native.Nat.{ℕ, ◌+◌, ◌-◌, ◌≤◌, ◌<◌}
 use mathlib.Core.Path.{◌≡◌, refl, sym, ◌∙◌, subst}
-use mathlib.Core.Bool.{Bool, true, false, ◌&&◌, ◌||◌}
+use mathlib.Core.Bool.{Bool, false, ◌||◌}
 use mathlib.Core.Logic.{◌≢◌}
 use mathlib.Core.List.{List, [], ◌∷◌, ◌++◌}
 use native.Mathlib.Omega.{arith}
 use native.Mathlib.Nat.{add-zero}
 use native.Mathlib.Decide.{dec_lt}
-use lib.Dec.{leb, ltb}
+use lib.Dec.{leb}
 use lib.ListN.{length, get_or, set, length-set, length-append}
 use lib.Seq.{get_or-set_same, get_or-set_other}
 use borrow.Author.Count.{below_more}
-use borrow.Author.Tests.{leb-true, leb-false, le-leb, ltb-true, ltb-false}
+use borrow.Author.Tests.{leb-false}
 use Rattle.forms.specs.Form.{Form, span, encode}
 use Rattle.forms.specs.Forms.{fss_utf}
 use Rattle.laws.proofs.Blocks.{each_none, each_more, each_all}
@@ -20,8 +20,6 @@ use Rattle.laws.proofs.Buffers.{with_one}
 use Rattle.laws.proofs.Progress.{CharacterAt}
 use Rattle.laws.proofs.Runs.{Run, Wrote, Convertible, Stands, run_none, run_join, run_one, convertible_run, convertible_stands, convertible_character}
 use Rattle.laws.proofs.Spare.{Spare, spare_none, spare_over, spare_more, spare_last}
-use Rattle.laws.proofs.Table.{and_left, and_right}
-use Rattle.laws.proofs.Values.{and_false}
 use Rattle.laws.proofs.Values.{neither_left as or_left, neither_right as or_right}
 use Rattle.runs_from_fss_utf.specs.ShortBlock.{Trailing, Shorts, Filled, Begun, ShortValue, LastStart}
 use Rattle.runs_from_fss_utf.proofs.KnownBytes.{begins, bytes_one, bytes_two, trails}
@@ -59,22 +57,6 @@ module _ {P : ℕ → ℕ → Type 0} {n : ℕ} {b : List ℕ} where
 
   pub filled_all : {j : ℕ} → Filled P n j b → j ≤ n → n ≤ j → Filled P n n b
   filled_all {j} f h k = let e : j ≡ n = omega arith in rw e at f
-
-pub begun_none : (b : ℕ) → (leb 0x80 b && ltb b 0xC0) ≡ true → Begun b 0
-begun_none b e =
-    record {
-      most = omega arith;
-      none = λ t. refl;
-      one = λ n. absurd (n (leb-true 0x80 b (and_left (leb 0x80 b) (ltb b 0xC0) e), ltb-true b 0xC0 (and_right (leb 0x80 b) (ltb b 0xC0) e)));
-    }
-
-pub begun_one : (b : ℕ) → (leb 0x80 b && ltb b 0xC0) ≡ false → Begun b 1
-begun_one b e =
-    record {
-      most = omega arith;
-      none = λ t. absurd (omega (arith, t, ltb-false b 0xC0 (and_false (leb 0x80 b) (ltb b 0xC0) e (le-leb 0x80 b t.0))));
-      one = λ n. refl;
-    }
 
 -- the last character begins with the last byte but one where the last is a trailing byte
 pub last-start_of : {s : List ℕ} {at n : ℕ} → Begun (get_or s (at + 63) 0) n → LastStart s at (62 + n)

@@ -1,1 +1,2 @@
 pub mod ShortBlock
+pub mod ShortUnits

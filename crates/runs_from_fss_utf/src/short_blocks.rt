@@ -9,10 +9,8 @@ pub fn longer64(src: &[u8], at: usize) -> bool
     ensures { result ≡ false → Shorts src.now at 64 }
 {
     let mut found = false;
-    let mut i: usize = 0;
-    while i < 64 {
-        found = found | (src[at + i] >= 0xE0);
-        i += 1;
+    for byte in &src[at..at + 64] {
+        found |= *byte >= 0xE0;
     }
     found
 }
@@ -21,7 +19,7 @@ pub fn longer64(src: &[u8], at: usize) -> bool
 fn begun(byte: u8) -> u8
     ensures { Begun byte result }
 {
-    if (byte >= 0x80) & (byte < 0xC0) { 0 } else { 1 }
+    u8::from((byte < 0x80) | (byte >= 0xC0))
 }
 
 pub fn begun64(src: &[u8], at: usize) -> [u8; 64]
@@ -29,25 +27,17 @@ pub fn begun64(src: &[u8], at: usize) -> [u8; 64]
     ensures { Begins src.now at 64 result }
 {
     let mut begins = [0u8; 64];
-    let mut i: usize = 0;
-    while i < 64 {
+    for i in 0..64 {
         begins[i] = begun(src[at + i]);
-        i += 1;
     }
     begins
 }
 
-fn wide(byte: u8) -> u16
-    ensures { result ≡ byte }
-{
-    byte as u16
-}
-
 // The free bits of a lead of two bytes or of a trailing byte.
-fn free_bits(byte: u8) -> u16
+pub fn free_bits(byte: u8) -> u16
     ensures { result ≡ byte % 64 }
 {
-    wide(byte) % 64
+    u16::from(byte) % 64
 }
 
 // The value of the character that begins with a byte; any, where none does.
@@ -55,7 +45,7 @@ fn value(byte: u8, next: u8) -> u16
     ensures { ShortValue byte next result }
 {
     let two = free_bits(byte) * 64 + free_bits(next);
-    if byte < 0xC0 { wide(byte) } else { two }
+    if byte < 0xC0 { u16::from(byte) } else { two }
 }
 
 pub fn values64(src: &[u8], at: usize) -> [u16; 64]
@@ -63,19 +53,11 @@ pub fn values64(src: &[u8], at: usize) -> [u16; 64]
     ensures { ShortValues src.now at 64 result }
 {
     let mut values = [0u16; 64];
-    let mut i: usize = 0;
-    while i < 64 {
+    for i in 0..64 {
         let k = at + i;
         values[i] = value(src[k], src[k + 1]);
-        i += 1;
     }
     values
-}
-
-pub fn size(byte: u8) -> usize
-    ensures { result ≡ byte }
-{
-    byte as usize
 }
 
 // Where the last character begins, counted from the offset: with the last byte, or with the one before a trailing byte.
@@ -83,5 +65,5 @@ pub fn last_start(src: &[u8], at: usize) -> usize
     requires { at + 64 < length src.now }
     ensures { LastStart src.now at result }
 {
-    62 + size(begun(src[at + 63]))
+    62 + usize::from(begun(src[at + 63]))
 }

@@ -1,24 +1,23 @@
-// To UTF-EBCDIC. A run copies the inverse table once and looks up in the copy; of the byte that `inverse_table` looks up it makes no use.
-ghost use Rattle.std.specs.Prelude.{◌<◌, length};
+// To UTF-EBCDIC. A run makes the inverse table once and looks up in it.
+ghost use Rattle.std.specs.Prelude.{◌≤◌, length};
 ghost use Rattle.forms.specs.Forms.{utf_ebcdic, ucs4};
 ghost use Rattle.laws.proofs.Runs.{Convertible, Wrote};
 
+use tables::exchange::InverseTable;
 use types::Run;
 
 pub fn write(src: &[u32], at: usize, dst: &mut [u8], written: usize) -> Run
-    requires { (at < length src.now) × Convertible ucs4 utf_ebcdic src.now at written (length dst.old) }
+    requires { (at ≤ length src.now) × Convertible ucs4 utf_ebcdic src.now at written (length dst.old) }
     ensures { Wrote ucs4 utf_ebcdic src.now at result.length result.units dst.old written dst.new }
 {
-    let mut table: [u8; 256] = [0; 256];
-    tables::exchange::inverse_table(&mut table, (src[at] % 256) as u8);
-    let room = src.len() - at;
-    let mut length: usize = 0;
+    let table = &InverseTable::new();
     let mut units: usize = 0;
-    while length < room {
-        let value = src[at + length];
-        let end = encoder::utf_ebcdic::write(&table, value, dst, written + units);
-        length += 1;
+    for value in &src[at..] {
+        let end = encoder::utf_ebcdic::write(table, *value, dst, written + units);
         units = end - written;
     }
-    Run { length, units }
+    Run {
+        length: src.len() - at,
+        units,
+    }
 }

@@ -4,6 +4,8 @@ use mathlib.Core.Path.{◌≡◌, refl, sym, ◌∙◌}
 use mathlib.Core.Logic.{◌≢◌}
 use mathlib.Core.Bool.{Bool, true, false, not}
 use mathlib.Core.List.{List, [], ◌∷◌, ◌++◌}
+use mir.Syntax.{w16}
+use mir.Val.{Fits, bool_byte}
 use native.Mathlib.Omega.{arith}
 use native.Mathlib.Nat.{add-zero}
 use native.Mathlib.Decide.{dec_lt}
@@ -32,6 +34,11 @@ pub record Midway (s : List ℕ) (at n : ℕ) (d : List ℕ) (k end : ℕ) (o : 
   pub run : Run utf16 ucs4 s at passed out
   pub counted : end ≡ n + length out
   pub cells : Spare d n out o
+
+-- what the test counts for, as a number
+pub counted_for : (b : Bool) → bool_byte b ≡ number b
+counted_for true = refl
+counted_for false = refl
 
 some : (e : List ℕ) → e ≢ [] → 0 < length e
 some [] h = absurd (h refl)
@@ -92,7 +99,7 @@ module _ {s d o : List ℕ} {at n k end : ℕ} (c : Convertible utf16 ucs4 s at 
           is_low_lem (get_or s (at + k + 1) 0) q.2 q.3
 
   module _
-      (units : (i : ℕ) → get_or s i 0 < 0x10000)
+      (units : (i : ℕ) → Fits w16 (get_or s i 0))
       (h : at + k + 1 < length s)
       {x z : ℕ}
       (pair : is_high (get_or s (at + k) 0) ≡ true → x ≡ pair_value (get_or s (at + k) 0) (get_or s (at + k + 1) 0))
@@ -151,11 +158,11 @@ module _ {s d o : List ℕ} {at n k end : ℕ} (c : Convertible utf16 ucs4 s at 
               where
                 plain : Dec (get_or s (at + k) 0 < 0xD800) → Dec (get_or s (at + k) 0 < 0xE000) → Midway s at n d (k + 1) z (set o end x)
                 plain (yes i) j =
-                    wrote here (alone s (at + k) (omega arith) (units (at + k)) (λ y. absurd (omega arith))) (unit b)
+                    wrote here (alone s (at + k) (omega arith) (omega (arith, units (at + k))) (λ y. absurd (omega arith))) (unit b)
                     (high-not-low (get_or s (at + k) 0) (omega arith)) (omega arith) (omega arith) (λ e. absurd (omega (arith, e)))
                 plain (no i) (yes j) = differ (is_high_lem (get_or s (at + k) 0) (omega arith) (pair_stands s (at + k) (begins here (omega arith)) (omega arith) j).0) b
                 plain (no i) (no j) =
-                    wrote here (alone s (at + k) (omega arith) (units (at + k)) (λ y. omega arith)) (unit b)
+                    wrote here (alone s (at + k) (omega arith) (omega (arith, units (at + k))) (λ y. omega arith)) (unit b)
                     (above_not-low (get_or s (at + k) 0) (omega arith)) (omega arith) (omega arith) (λ e. absurd (omega (arith, e)))
 
   -- before the last character all others were written

@@ -1,10 +1,12 @@
 -- Blocks without surrogates: each unit is a character by itself, and its value.
 use Prim.Native.Nat.{ℕ, ◌+◌, ◌-◌, ◌≤◌, ◌<◌}
-use mathlib.Core.Path.{◌≡◌, sym, ap, ◌∙◌}
+use mathlib.Core.Path.{◌≡◌, sym}
 use mathlib.Core.List.{List, [], ◌∷◌}
+use mir.Syntax.{w16}
+use mir.Val.{Fits}
 use native.Mathlib.Omega.{arith}
-use lib.ListN.{length, get_or, drop, length-append}
-use lib.Seq.{take_at, get_or-take, get_or-drop}
+use lib.ListN.{length, get_or, drop}
+use lib.Seq.{take_at}
 use Rattle.forms.specs.Form.{Form, encode, encode_all, span}
 use Rattle.forms.specs.Forms.{utf16, fss_utf, ucs4}
 use Rattle.forms.specs.Buffer.{with_units}
@@ -14,6 +16,7 @@ use Rattle.laws.proofs.Blocks.{AtMost, NoSurrogates, no_surrogates}
 use Rattle.laws.proofs.Values.{part, part_length, Encodable, Encoded, Room, singles_run, singles_encodable, singles_room, own_encodings, wrote_encoded}
 use Rattle.laws.proofs.UnitEncodings.{ucs4_outside}
 use Rattle.encoder.proofs.FssUtf.{one_byte}
+use Rattle.encoder.proofs.Parts.{part_encodable, part_room, part_encoded}
 use Rattle.measure_runs.proofs.Utf16Tests.{surrogate_false}
 use Rattle.measure_runs.proofs.Utf16Pairs.{alone}
 
@@ -23,10 +26,10 @@ module _
     {at n m k : ℕ}
     (c : Convertible utf16 G s at n m)
     (inside : at + k ≤ length s)
-    (units : (i : ℕ) → get_or s i 0 < 0x10000)
+    (units : (i : ℕ) → Fits w16 (get_or s i 0))
     (p : NoSurrogates s at k) where
   next : (j : ℕ) → j < k → Run utf16 G s at j (encode_all G (part s at j)) → CharacterAt utf16 s (at + j) (get_or s (at + j) 0) (span (at + j) 1)
-  next j h r = alone s (at + j) (omega arith) (units (at + j)) (surrogate_false (get_or s (at + j) 0) (p.each j h))
+  next j h r = alone s (at + j) (omega arith) (omega (arith, units (at + j))) (surrogate_false (get_or s (at + j) 0) (p.each j h))
 
   plain_run : Run utf16 G s at k (encode_all G (part s at k))
   plain_run = singles_run c inside next k (omega arith)
@@ -57,27 +60,17 @@ module _
     local_part : part b 0 k ≡ part s at k
     local_part = rw e (take_at (part s at k) (drop (0 + length (part s at k)) z) k (part_length s at k inside))
 
-    local-unit : (j : ℕ) → j < k → get_or b (0 + j) 0 ≡ get_or s (at + j) 0
-    local-unit j h =
-        let l : get_or (part b 0 k) j 0 ≡ get_or b (0 + j) 0 = get_or-take k (drop 0 b) j 0 h ∙ get_or-drop 0 b j 0 in
-        let r : get_or (part s at k) j 0 ≡ get_or s (at + j) 0 = get_or-take k (drop at s) j 0 h ∙ get_or-drop at s j 0 in
-        sym l ∙ ap (λ (x : List ℕ). get_or x j 0) local_part ∙ r
+    pub local_encodable : Encodable G (part b 0 k) 0 (length (part b 0 k))
+    local_encodable = rw local_part (part_encodable s at k inside plain_encodable)
 
-    pub local_encodable : Encodable G b 0 k
-    local_encodable =
-        record {
-          inside = omega (arith, ap length e, length-append (part s at k) (drop (0 + length (part s at k)) z), part_length s at k inside);
-          each = λ j h. rw (local-unit j h) ((singles_encodable c inside next).each j h);
-        }
+    pub local-room : Room G (part b 0 k) 0 (length (part b 0 k)) n m
+    local-room = rw local_part (part_room s at k inside plain_room)
 
-    pub local-room : Room G b 0 k n m
-    local-room = record { fits = rw local_part (singles_room c inside next).fits }
-
-    pub local_wrote : {d o : List ℕ} {u : ℕ} → Encoded G b 0 k d n u o → Wrote utf16 G s at k (u - n) d n o
-    local_wrote x = wrote_encoded {from = 0} {c = k} {b = b} (rw local_part plain_run) x
+    pub local_wrote : {d o : List ℕ} {u : ℕ} → Encoded G (part b 0 k) 0 (length (part b 0 k)) d n u o → Wrote utf16 G s at k (u - n) d n o
+    local_wrote x = plain_wrote (part_encoded s at k inside (rw local_part at x))
 
 -- ASCII to FSS-UTF, and any to UCS-4
-module _ {s : List ℕ} {at n m k : ℕ} (c : Convertible utf16 fss_utf s at n m) (inside : at + k ≤ length s) (units : (i : ℕ) → get_or s i 0 < 0x10000) (a : AtMost s at k 0x7F) where
+module _ {s : List ℕ} {at n m k : ℕ} (c : Convertible utf16 fss_utf s at n m) (inside : at + k ≤ length s) (units : (i : ℕ) → Fits w16 (get_or s i 0)) (a : AtMost s at k 0x7F) where
   own : (j : ℕ) → j < k → encode fss_utf (get_or s (at + j) 0) ≡ get_or s (at + j) 0 ∷ []
   own j h = one_byte (get_or s (at + j) 0) (omega (arith, a.each j h))
 
@@ -87,7 +80,7 @@ module _ {s : List ℕ} {at n m k : ℕ} (c : Convertible utf16 fss_utf s at n m
   pub ascii_wrote : {d o : List ℕ} → o ≡ with_units d n (part s at k) → Wrote utf16 fss_utf s at k k d n o
   ascii_wrote e = own_wrote c inside units (no_surrogates a (omega arith)) own e
 
-module _ {s : List ℕ} {at n m k : ℕ} (c : Convertible utf16 ucs4 s at n m) (inside : at + k ≤ length s) (units : (i : ℕ) → get_or s i 0 < 0x10000) (p : NoSurrogates s at k) where
+module _ {s : List ℕ} {at n m k : ℕ} (c : Convertible utf16 ucs4 s at n m) (inside : at + k ≤ length s) (units : (i : ℕ) → Fits w16 (get_or s i 0)) (p : NoSurrogates s at k) where
   value : (j : ℕ) → j < k → encode ucs4 (get_or s (at + j) 0) ≡ get_or s (at + j) 0 ∷ []
   value j h = ucs4_outside (get_or s (at + j) 0) (surrogate_false (get_or s (at + j) 0) (p.each j h)) (omega (arith, units (at + j)))
 

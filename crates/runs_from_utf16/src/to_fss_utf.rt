@@ -6,7 +6,7 @@ ghost use Rattle.laws.proofs.Runs.{Convertible, Wrote};
 ghost use Rattle.laws.proofs.Blocks.{AtMost};
 ghost use Rattle.laws.proofs.Values.{Encodable, Encoded, Room, part};
 
-use types::Run;
+use types::{FssUtf, Run};
 
 // Character by character, until so many units have passed. Each length has its own way round the loop.
 fn each(src: &[u16], at: usize, count: usize, dst: &mut [u8], written: usize) -> Run
@@ -15,20 +15,21 @@ fn each(src: &[u16], at: usize, count: usize, dst: &mut [u8], written: usize) ->
 {
     let mut length: usize = 0;
     let mut end = written;
+    // No `for`: a turn steps by a character, and only finds out how many units that is.
     while length < count {
         let unit = src[at + length];
         if unit < 0x80 {
-            end = encoder::fss_utf::one(crate::decoding::wide(unit), dst, end);
+            end = encoder::fss_utf::one(u32::from(unit), dst, end);
             length += 1;
             continue;
         }
         if unit < 0x800 {
-            end = encoder::fss_utf::two(crate::decoding::wide(unit), dst, end);
+            end = encoder::fss_utf::two(u32::from(unit), dst, end);
             length += 1;
             continue;
         }
         if !measure_runs::utf16_blocks::surrogate(unit) {
-            end = encoder::fss_utf::three(crate::decoding::wide(unit), dst, end);
+            end = encoder::fss_utf::three(u32::from(unit), dst, end);
             length += 1;
             continue;
         }
@@ -36,27 +37,19 @@ fn each(src: &[u16], at: usize, count: usize, dst: &mut [u8], written: usize) ->
         length += 2;
     }
     Run {
-        length: length,
+        length,
         units: end - written,
     }
 }
 
-fn low(unit: u16) -> u8
-    requires { unit < 0x80 }
-    ensures { result ≡ unit }
-{
-    unit as u8
-}
-
-// ASCII: each unit is its byte.
+// ASCII: each unit is its byte. This and `twos` read the units themselves: for their twins of `encoder`, which read values, a block would have
+// to be widened first, a pass more.
 fn copy(src: &[u16], at: usize, count: usize, dst: &mut [u8], written: usize)
     requires { (at + count ≤ length src.now) × (written + count ≤ length dst.old) × (AtMost src.now at count 0x7F) }
     ensures { dst.new ≡ with_units dst.old written (part src.now at count) }
 {
-    let mut k: usize = 0;
-    while k < count {
-        dst[written + k] = low(src[at + k]);
-        k += 1;
+    for k in 0..count {
+        dst[written + k] = src[at + k] as u8;
     }
 }
 
@@ -70,12 +63,10 @@ fn twos(src: &[u16], at: usize, count: usize, dst: &mut [u8], written: usize) ->
     }
     let last = count - 1;
     let mut end = written;
-    let mut k: usize = 0;
-    while k < last {
-        end = encoder::fss_utf_blocks::overrun(crate::decoding::wide(src[at + k]), dst, end);
-        k += 1;
+    for k in 0..last {
+        end = encoder::fss_utf_blocks::overrun(u32::from(src[at + k]), dst, end);
     }
-    encoder::fss_utf::write(crate::decoding::wide(src[at + last]), dst, end)
+    encoder::fss_utf::write(u32::from(src[at + last]), dst, end)
 }
 
 fn block(src: &[u16], at: usize, count: usize, dst: &mut [u8], written: usize) -> Run
@@ -102,7 +93,7 @@ fn block(src: &[u16], at: usize, count: usize, dst: &mut [u8], written: usize) -
     }
     let mut values = [0u32; 128];
     crate::decoding::widen(src, at, count, &mut values, 0);
-    let end = encoder::fss_utf_blocks::write_all(&values, 0, count, dst, written);
+    let end = encoder::blocks::write_all::<FssUtf>(&values[..count], dst, written);
     Run {
         length: count,
         units: end - written,
@@ -131,6 +122,7 @@ pub fn write(src: &[u16], at: usize, dst: &mut [u8], written: usize) -> Run
 {
     let mut length: usize = 0;
     let mut end = written;
+    // No `for`: a block that ends within a pair takes one unit more.
     while 128 <= src.len() - at - length {
         let run = block(src, at + length, 128, dst, end);
         length += run.length;

@@ -13,13 +13,14 @@ fn each(src: &[u16], at: usize, count: usize, dst: &mut [u32], written: usize) -
 {
     let mut length: usize = 0;
     let mut end = written;
+    // No `for`: a turn steps by a character, and only finds out how many units that is.
     while length < count {
         let next = crate::decoding::decode(src, at + length);
         end = encoder::ucs4::write(next.value, dst, end);
         length += next.length;
     }
     Run {
-        length: length,
+        length,
         units: end - written,
     }
 }
@@ -30,20 +31,9 @@ fn value(unit: u16, next: u16) -> u32
     ensures { (is_high unit ≡ true → result ≡ 0x10000 + (unit - 0xD800) * 0x400 + (next - 0xDC00)) × (is_high unit ≡ false → result ≡ unit) }
 {
     if measure_runs::utf16_blocks::high(unit) {
-        crate::decoding::wide(unit) * 0x400 + crate::decoding::wide(next) - 0x35FDC00
+        u32::from(unit) * 0x400 + u32::from(next) - 0x35FDC00
     } else {
-        crate::decoding::wide(unit)
-    }
-}
-
-// A low unit counts for no value.
-fn counted(unit: u16) -> usize
-    ensures { result ≡ number (not (is_low unit)) }
-{
-    if measure_runs::utf16_blocks::low(unit) {
-        0
-    } else {
-        1
+        u32::from(unit)
     }
 }
 
@@ -66,12 +56,11 @@ fn pairs(src: &[u16], at: usize, count: usize, dst: &mut [u32], written: usize) 
 {
     let last = last_of(src, at, count);
     let mut end = written;
-    let mut k: usize = 0;
-    while k < last {
+    for k in 0..last {
         let unit = src[at + k];
         dst[end] = value(unit, src[at + k + 1]);
-        end += counted(unit);
-        k += 1;
+        // A low unit counts for no value.
+        end += usize::from(!measure_runs::utf16_blocks::low(unit));
     }
     let next = crate::decoding::decode(src, at + last);
     end = encoder::ucs4::write(next.value, dst, end);
@@ -81,7 +70,8 @@ fn pairs(src: &[u16], at: usize, count: usize, dst: &mut [u32], written: usize) 
     }
 }
 
-// Blocks with surrogates are written in quarters: the shorter they are, the more of them have none.
+// Blocks with surrogates are written in quarters: the shorter they are, the more of them have none. `quarter`, `large` and `block` are three:
+// with the step as a parameter each clause would be said of the step.
 fn quarter(src: &[u16], at: usize, count: usize, dst: &mut [u32], written: usize) -> Run
     requires { (2 ≤ count) × (at + count ≤ length src.now) × (Convertible utf16 ucs4 src.now at written (length dst.old)) }
     ensures { (Wrote utf16 ucs4 src.now at result.length result.units dst.old written dst.new) × (count ≤ result.length) }
@@ -102,13 +92,14 @@ fn quarters(src: &[u16], at: usize, dst: &mut [u32], written: usize) -> Run
 {
     let mut length: usize = 0;
     let mut end = written;
+    // No `for`: a quarter that ends within a pair takes one unit more.
     while length < 97 {
         let run = quarter(src, at + length, 32, dst, end);
         length += run.length;
         end += run.units;
     }
     Run {
-        length: length,
+        length,
         units: end - written,
     }
 }
@@ -149,6 +140,7 @@ pub fn write(src: &[u16], at: usize, dst: &mut [u32], written: usize) -> Run
 {
     let mut length: usize = 0;
     let mut end = written;
+    // No `for`: a block that ends within a pair takes one unit more.
     while 128 <= src.len() - at - length {
         let run = large(src, at + length, dst, end);
         length += run.length;

@@ -1,6 +1,7 @@
+use mathlib.Core.Path.{refl}
 use native.Mathlib.Omega.{arith}
 use Rattle.laws.proofs.Values.{copied_more}
 use Rattle.runs_from_utf16.proofs.to_fss_utf.copy.Goals as goal
 
 pub loop-k-preserved : goal.loop-k-preserved
-loop-k-preserved c = (omega (arith, c.loop-k-test.true), copied_more c.requires.0 c.requires.1 c.loop-k.invariant.1 c.low.result c.low.ensures c.loop-k-test.true)
+loop-k-preserved c = (omega (arith, c.loop-k-test.true), copied_more c.requires.0 c.requires.1 c.loop-k.invariant.1 _ refl c.loop-k-test.true)

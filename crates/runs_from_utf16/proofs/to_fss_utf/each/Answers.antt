@@ -25,7 +25,7 @@ inside c = omega (arith, c.loop-length-test.true, c.requires.0)
 
 -- a unit by itself
 single : (c : In-loop-length) → (0xD800 ≤ get_or (text c) (place c) 0 → 0xE000 ≤ get_or (text c) (place c) 0) → CharacterAt utf16 (text c) (place c) (get_or (text c) (place c) 0) (span (place c) 1)
-single c o = alone (text c) (place c) (inside c) (omega (arith, c.shared_slice_known-1.given (place c))) o
+single c o = alone (text c) (place c) (inside c) (omega (arith, c.type_inv.src (place c))) o
 
 -- a character may be written
 held : (c : In-loop-length) {v k : ℕ} → CharacterAt utf16 (text c) (place c) v (span (place c) k) → encode fss_utf v ≢ []
@@ -41,13 +41,13 @@ pub one-end-requires : goal.one-end-requires
 one-end-requires c =
     let i = (goal.at.one-end-requires c).In-loop-length in
     let one = single i (λ h. absurd (omega (arith, h, c.if-unit-lt128.true))) in
-    (omega (arith, c.wide.ensures, c.if-unit-lt128.true), rw c.wide.ensures (written-room c.requires.1 c.loop-length.invariant (run i one)))
+    (omega (arith, c.from.ensures, c.if-unit-lt128.true), rw c.from.ensures (written-room c.requires.1 c.loop-length.invariant (run i one)))
 
 pub loop-length-preserved-then-unit-lt128 : goal.loop-length-preserved-then-unit-lt128
 loop-length-preserved-then-unit-lt128 c =
     let i = (goal.at.loop-length-preserved-then-unit-lt128 c).In-loop-length in
     let one = single i (λ h. absurd (omega (arith, h, c.if-unit-lt128.true))) in
-    let e = c.wide.ensures in
+    let e = c.from.ensures in
     let w = c.one-end.ensures in
     written_join c.requires.1 c.loop-length.invariant (run i one) (rw e at w.0) (rw e at w.1)
 
@@ -55,14 +55,14 @@ pub two-end-requires : goal.two-end-requires
 two-end-requires c =
     let i = (goal.at.two-end-requires c).In-loop-length in
     let two = single i (λ h. absurd (omega (arith, h, c.if-unit-lt2048.true))) in
-    let e = c.wide-then-unit-lt2048.ensures in
+    let e = c.from-then-unit-lt2048.ensures in
     (omega (arith, e, c.if-unit-lt128.false), omega (arith, e, c.if-unit-lt2048.true), rw e (written-room c.requires.1 c.loop-length.invariant (run i two)))
 
 pub loop-length-preserved-then-unit-lt2048 : goal.loop-length-preserved-then-unit-lt2048
 loop-length-preserved-then-unit-lt2048 c =
     let i = (goal.at.loop-length-preserved-then-unit-lt2048 c).In-loop-length in
     let two = single i (λ h. absurd (omega (arith, h, c.if-unit-lt2048.true))) in
-    let e = c.wide-then-unit-lt2048.ensures in
+    let e = c.from-then-unit-lt2048.ensures in
     let w = c.two-end.ensures in
     written_join c.requires.1 c.loop-length.invariant (run i two) (rw e at w.0) (rw e at w.1)
 
@@ -70,10 +70,10 @@ pub three-end-requires : goal.three-end-requires
 three-end-requires c =
     let i = (goal.at.three-end-requires c).In-loop-length in
     let three = single i (surrogate_false _ (rw c.surrogate.ensures at c.if-not-surrogate.true)) in
-    let e = c.wide-then-not-surrogate.ensures in (
+    let e = c.from-then-not-surrogate.ensures in (
       rw e (held i three),
       omega (arith, e, c.if-unit-lt2048.false),
-      omega (arith, e, c.shared_slice_known-1.given (place i)),
+      omega (arith, e, c.type_inv.src (place i)),
       rw e (written-room c.requires.1 c.loop-length.invariant (run i three)),
     )
 
@@ -81,7 +81,7 @@ pub loop-length-preserved-then-not-surrogate : goal.loop-length-preserved-then-n
 loop-length-preserved-then-not-surrogate c =
     let i = (goal.at.loop-length-preserved-then-not-surrogate c).In-loop-length in
     let three = single i (surrogate_false _ (rw c.surrogate.ensures at c.if-not-surrogate.true)) in
-    let e = c.wide-then-not-surrogate.ensures in
+    let e = c.from-then-not-surrogate.ensures in
     let w = c.three-end.ensures in
     written_join c.requires.1 c.loop-length.invariant (run i three) (rw e at w.0) (rw e at w.1)
 

@@ -9,11 +9,11 @@ copy-requires c =
     at-most_looser 0x7F c.joined.ensures (omega (arith, c.if-joined-lt128.true)) in
     let p = c.requires in
     let a = ascii in
-    (p.0, ascii_room p.1 p.0 (λ i. omega (arith, c.shared_slice_known-1.given i)) a, a)
+    (p.0, ascii_room p.1 p.0 c.type_inv.src a, a)
 
 pub returns-then-joined-lt128 : goal.returns-then-joined-lt128
 returns-then-joined-lt128 c =
     let ascii : (let z = c.args in AtMost z.src.now z.at z.count 0x7F) =
     at-most_looser 0x7F c.joined.ensures (omega (arith, c.if-joined-lt128.true)) in
     let p = c.requires in
-    (ascii_wrote p.1 p.0 (λ i. omega (arith, c.shared_slice_known-1.given i)) ascii c.copy.ensures, omega arith)
+    (ascii_wrote p.1 p.0 c.type_inv.src ascii c.copy.ensures, omega arith)

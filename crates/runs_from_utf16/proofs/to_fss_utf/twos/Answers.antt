@@ -9,13 +9,13 @@ use Rattle.runs_from_utf16.proofs.to_fss_utf.twos.Goals as goal
 pub overrun-end-requires : goal.overrun-end-requires
 overrun-end-requires c = let p = c.requires in
     let h : c.loop-k.k + 1 < c.args.count = omega (arith, c.loop-k-test.true) in
-    (rw c.wide.ensures (twos_below p.0 p.1 p.2 c.loop-k.invariant.1 h), twos_room p.0 p.1 p.2 c.loop-k.invariant.1 h)
+    (rw c.from.ensures (twos_below p.0 p.1 p.2 c.loop-k.invariant.1 h), twos_room p.0 p.1 p.2 c.loop-k.invariant.1 h)
 
 pub loop-k-preserved : goal.loop-k-preserved
 loop-k-preserved c = let p = c.requires in
     let t = c.loop-k-test.true in
     let h : c.loop-k.k + 1 < c.args.count = omega (arith, t) in
-    let e = c.wide.ensures in
+    let e = c.from.ensures in
     let w = c.overrun-end.ensures in
     (omega (arith, t), twos_more p.0 p.1 p.2 c.loop-k.invariant.1 h (rw e at w.0) (rw e at w.1))
 
@@ -25,7 +25,7 @@ write-requires c =
     let l = c.loop-k in
     let e : l.k ≡ c.args.count - 1 = omega (arith, c.loop-k-test.false, l.invariant.0) in
     (omega (arith, l.invariant.0), rw e at l.invariant.1) in
-    rw c.wide-2.ensures (c.requires.0.each (c.args.count - 1) (omega (arith, last.0)), overrun_last-room c.requires.0 c.requires.1 last.1 (omega (arith, last.0)))
+    rw c.from-2.ensures (c.requires.0.each (c.args.count - 1) (omega (arith, last.0)), overrun_last-room c.requires.0 c.requires.1 last.1 (omega (arith, last.0)))
 
 pub returns : goal.returns
 returns c =
@@ -33,6 +33,6 @@ returns c =
     let l = c.loop-k in
     let e : l.k ≡ c.args.count - 1 = omega (arith, c.loop-k-test.false, l.invariant.0) in
     (omega (arith, l.invariant.0), rw e at l.invariant.1) in
-    let e = c.wide-2.ensures in
+    let e = c.from-2.ensures in
     let w = c.write.ensures in
     overrun_last c.requires.0 c.requires.1 last.1 (omega (arith, last.0)) (omega (arith, last.0)) (rw e at w.0) (rw e at w.1)

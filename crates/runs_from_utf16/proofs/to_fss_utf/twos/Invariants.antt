@@ -1,10 +1,7 @@
-use Prim.Native.Nat.{◌+◌, ◌-◌, ◌≤◌}
+use Prim.Native.Nat.{◌+◌, ◌≤◌}
 use Rattle.forms.specs.Forms.{fss_utf}
 use Rattle.laws.proofs.Spare.{Overrun}
 use Rattle.runs_from_utf16.proofs.to_fss_utf.twos.Given as goal
 
 abbrev pub invariant-loop-k : goal.invariant-loop-k
 invariant-loop-k l = (l.k + 1 ≤ l.count) × Overrun fss_utf l.src l.at l.k l.initial.dst l.written l.end l.dst
-
-abbrev pub decreases-loop-k : goal.decreases-loop-k
-decreases-loop-k l = l.count - l.k

@@ -1,11 +1,11 @@
 use Prim.Native.Nat.{ℕ, ◌+◌, ◌<◌}
-use mathlib.Core.Path.{◌≡◌, ap}
+use mathlib.Core.Path.{◌≡◌, ap, ◌∙◌}
 use native.Mathlib.Omega.{arith}
 use lib.ListN.{length as long}
 use Rattle.laws.proofs.FourForms.{utf16_laws}
 use Rattle.laws.proofs.Progress.{character-value}
 use Rattle.laws.proofs.Values.{written_wrote}
-use Rattle.runs_from_utf16.proofs.Midway.{Midway, midway_none, midway_room, midway_high, midway_more, midway_stands, midway_last-room, midway_all, midway_passed}
+use Rattle.runs_from_utf16.proofs.Midway.{Midway, counted_for, midway_none, midway_room, midway_high, midway_more, midway_stands, midway_last-room, midway_all, midway_passed}
 use Rattle.runs_from_utf16.proofs.to_ucs4.pairs.Goals as goal
 
 pub loop-k-init : goal.loop-k-init
@@ -31,7 +31,7 @@ loop-k-preserved c =
     omega (arith, c.loop-k-test.true, c.last_of-last.ensures.inside, c.requires.1) in
     let l = c.loop-k in
     let v = c.value.ensures in
-    (omega (arith, c.loop-k-test.true), midway_more c.requires.2 l.invariant.1 (λ j. omega (arith, c.shared_slice_known-1.given j)) near v.0 v.1 (ap (λ (n : ℕ). l.end + n) c.counted-end.ensures))
+    (omega (arith, c.loop-k-test.true), midway_more c.requires.2 l.invariant.1 c.type_inv.src near v.0 v.1 (ap (λ (n : ℕ). l.end + n) (rw c.low.ensures at (c.from-end.ensures ∙ counted_for _))))
 
 pub decode-next-requires : goal.decode-next-requires
 decode-next-requires c =

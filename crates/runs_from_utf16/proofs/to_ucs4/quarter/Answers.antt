@@ -4,8 +4,8 @@ use Rattle.runs_from_utf16.proofs.to_ucs4.quarter.Goals as goal
 
 pub widen-requires : goal.widen-requires
 widen-requires c = let p = c.requires in
-    (p.1, widened_room p.2 p.1 (λ i. omega (arith, c.shared_slice_known-1.given i)) (c.surrogates.ensures c.if-surrogates.false))
+    (p.1, widened_room p.2 p.1 c.type_inv.src (c.surrogates.ensures c.if-surrogates.false))
 
 pub returns : goal.returns
 returns c = let p = c.requires in
-    (widened_wrote p.2 p.1 (λ i. omega (arith, c.shared_slice_known-1.given i)) (c.surrogates.ensures c.if-surrogates.false) c.widen.ensures, omega arith)
+    (widened_wrote p.2 p.1 c.type_inv.src (c.surrogates.ensures c.if-surrogates.false) c.widen.ensures, omega arith)

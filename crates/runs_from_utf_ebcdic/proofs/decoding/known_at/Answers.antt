@@ -3,19 +3,19 @@ use Rattle.runs_from_utf_ebcdic.proofs.KnownBytes.{bytes_one, bytes_two, bytes_t
 use Rattle.runs_from_utf_ebcdic.proofs.decoding.known_at.Goals as goal
 
 pub returns-then-lead-lt160 : goal.returns-then-lead-lt160
-returns-then-lead-lt160 c = rw (c.wide.ensures, c.exchanged-lead.ensures) (record { character = λ n. (bytes_one c.args.src.now c.args.at c.requires.1 (omega (arith, c.exchanged-lead.ensures, c.if-lead-lt160.true))).here })
+returns-then-lead-lt160 c = rw (c.from.ensures, c.get-lead.ensures) (bytes_one c.args.src.now c.args.at c.requires (omega (arith, c.get-lead.ensures, c.if-lead-lt160.true))).here
 
 pub returns-then-lead-lt224 : goal.returns-then-lead-lt224
-returns-then-lead-lt224 c = rw (c.wide-then-lead-lt224.ensures, c.wide-a.ensures, c.exchanged.ensures, c.exchanged-lead.ensures) (record { character = λ n. (bytes_two c.args.src.now c.args.at c.requires.1 (omega (arith, c.exchanged-lead.ensures, c.if-lead-lt160.false)) (omega (arith, c.exchanged-lead.ensures, c.if-lead-lt224.true))).here })
+returns-then-lead-lt224 c = rw (c.from-then-lead-lt224.ensures, c.from-a.ensures, c.get.ensures, c.get-lead.ensures) (bytes_two c.args.src.now c.args.at c.requires (omega (arith, c.get-lead.ensures, c.if-lead-lt160.false)) (omega (arith, c.get-lead.ensures, c.if-lead-lt224.true))).here
 
 pub bounds-src-at-3 : goal.bounds-src-at-3
-bounds-src-at-3 c = inside-three c.args.src.now c.args.at c.requires.1 (omega (arith, c.exchanged-lead.ensures, c.if-lead-lt224.false)) (omega (arith, c.exchanged-lead.ensures))
+bounds-src-at-3 c = inside-three c.args.src.now c.args.at c.requires (omega (arith, c.get-lead.ensures, c.if-lead-lt224.false)) (omega (arith, c.get-lead.ensures))
 
 pub returns-then-lead-lt240 : goal.returns-then-lead-lt240
-returns-then-lead-lt240 c = rw (c.wide-then-lead-lt240.ensures, c.wide-b.ensures, c.exchanged-2.ensures, c.wide-a.ensures, c.exchanged.ensures, c.exchanged-lead.ensures) (record { character = λ n. (bytes_three c.args.src.now c.args.at c.requires.1 (omega (arith, c.exchanged-lead.ensures, c.if-lead-lt224.false)) (omega (arith, c.exchanged-lead.ensures, c.if-lead-lt240.true))).here })
+returns-then-lead-lt240 c = rw (c.from-then-lead-lt240.ensures, c.from-b.ensures, c.get-2.ensures, c.from-a.ensures, c.get.ensures, c.get-lead.ensures) (bytes_three c.args.src.now c.args.at c.requires (omega (arith, c.get-lead.ensures, c.if-lead-lt224.false)) (omega (arith, c.get-lead.ensures, c.if-lead-lt240.true))).here
 
 pub bounds-src-at-4 : goal.bounds-src-at-4
-bounds-src-at-4 c = (bytes_four c.args.src.now c.args.at c.requires.1 (omega (arith, c.exchanged-lead.ensures, c.if-lead-lt240.false)) (omega (arith, c.exchanged-lead.ensures, c.if-lead-ge248.false))).inside
+bounds-src-at-4 c = (bytes_four c.args.src.now c.args.at c.requires (omega (arith, c.get-lead.ensures, c.if-lead-lt240.false)) (omega (arith, c.get-lead.ensures, c.if-lead-ge248.false))).inside
 
 pub returns : goal.returns
-returns c = rw (c.wide-2.ensures, c.wide-c.ensures, c.exchanged-3.ensures, c.wide-b.ensures, c.exchanged-2.ensures, c.wide-a.ensures, c.exchanged.ensures, c.exchanged-lead.ensures) (record { character = λ n. (bytes_four c.args.src.now c.args.at c.requires.1 (omega (arith, c.exchanged-lead.ensures, c.if-lead-lt240.false)) (omega (arith, c.exchanged-lead.ensures, c.if-lead-ge248.false))).here })
+returns c = rw (c.from-2.ensures, c.from-c.ensures, c.get-3.ensures, c.from-b.ensures, c.get-2.ensures, c.from-a.ensures, c.get.ensures, c.get-lead.ensures) (bytes_four c.args.src.now c.args.at c.requires (omega (arith, c.get-lead.ensures, c.if-lead-lt240.false)) (omega (arith, c.get-lead.ensures, c.if-lead-ge248.false))).here
