@@ -1,44 +1,32 @@
 -- The search backwards over bytes: what its loop keeps, how a trailing byte carries it on, and what it comes to.
-use Prim.Native.Nat.{ℕ, suc, ◌+◌, ◌-◌, ◌≤◌, ◌<◌}
+use Prim.Native.Nat.{ℕ, zero, suc, ◌+◌, ◌-◌, ◌≤◌, ◌<◌}
 use mathlib.Core.Path.{◌≡◌, refl, sym, ap, ◌∙◌}
 use mathlib.Core.List.{List}
 use native.Mathlib.Omega.{arith}
 use native.Mathlib.Numerals.{add-one}
 use borrow.Author.Tests.{le-leb, lt-leb}
 use lib.ListN.{length, get_or, take, drop}
-use Rattle.forms.specs.Fault.{limit}
-use Rattle.forms.specs.Form.{Role, lead, trailing, invalid, Form}
-use Rattle.laws.proofs.FormLaws.{Laws}
+use Rattle.forms.specs.Form.{Role, Form}
 use Rattle.laws.specs.Finder.{units_before, nearest}
 use Rattle.laws.proofs.Distances.{distance_at, distance_back, part_nearest}
-use Rattle.laws.proofs.Finder.{Near, near}
-use Rattle.tables.specs.ByteForms.{byte_form, role_number}
-use Rattle.tables.specs.declared.ByteForm.{ByteForm}
-use Rattle.tables.specs.declared.ByteForm.TheVariants.{FssUtf, UtfEbcdic}
-use Rattle.tables.proofs.ByteLayouts.{byte_laws}
+use Rattle.tables.specs.ByteForms.{role_seen}
+use Rattle.tables.specs.declared.ByteRole.{ByteRole}
+use Rattle.tables.specs.declared.ByteRole.TheVariants.{Lead, Trailing, Invalid}
+use Rattle.tables.proofs.Agreement.{role_is}
 
--- a unit by its role's number: trailing, a lead that takes the units passed, or another
-number-trailing : (o : Role) (j d n : ℕ) → ((k : ℕ) → o ≡ lead k → k < 8) → n ≡ role_number o → n ≡ 9 → distance_at o j d ≡ d
-number-trailing (lead k) j d n h e q = absurd (omega (arith, h k refl))
-number-trailing trailing j d n h e q = refl
-number-trailing invalid j d n h e q = absurd (omega arith)
+-- a unit by its role: trailing, a lead that takes the units passed, or another
+seen-trailing : (o : Role) (j d : ℕ) (r : ByteRole) → r ≡ role_seen o → r ≡ Trailing → distance_at o j d ≡ d
+seen-trailing o j d r e q = rw (role_is o r Trailing e q)
 
-number_takes : (o : Role) (j d n : ℕ) → n ≡ role_number o → (n ≡ 9 → ⊥) → j < n → distance_at o j d ≡ j
-number_takes (lead k) j d n e q h = rw (le-leb j k (omega arith))
-number_takes trailing j d n e q h = absurd (q e)
-number_takes invalid j d n e q h = absurd (omega arith)
+seen_takes : (o : Role) (j d n : ℕ) (r : ByteRole) → r ≡ role_seen o → r ≡ Lead n → j < n → distance_at o j d ≡ j
+seen_takes o j d n r e q h = rw (role_is o r (Lead n) e q, le-leb j (n - 1) (omega arith))
 
-number_leaves : (o : Role) (j d n : ℕ) → n ≡ role_number o → (n ≡ 9 → ⊥) → n ≤ j → distance_at o j d ≡ 0
-number_leaves (lead k) j d n e q h = rw (lt-leb j k (omega arith))
-number_leaves trailing j d n e q h = absurd (q e)
-number_leaves invalid j d n e q h = refl
+seen_leaves : (o : Role) (j d n : ℕ) (r : ByteRole) → r ≡ role_seen o → r ≡ Lead n → n ≤ j → distance_at o j d ≡ 0
+seen_leaves o zero d n r e q h = rw (role_is o r (Lead n) e q, le-leb 0 (n - 1) (omega arith))
+seen_leaves o (suc j) d n r e q h = rw (role_is o r (Lead n) e q, lt-leb (suc j) (n - 1) (omega arith))
 
-longest_below : (f : ByteForm) → (byte_form f).longest ≤ 8
-longest_below FssUtf = omega arith
-longest_below UtfEbcdic = omega arith
-
-pub short-leads : (f : ByteForm) (u k : ℕ) → (byte_form f).role u ≡ lead k → k < 8
-short-leads f u k e = omega (arith, (byte_laws f).reach u k e, longest_below f)
+seen-invalid : (o : Role) (j d : ℕ) (r : ByteRole) → r ≡ role_seen o → r ≡ Invalid → distance_at o j d ≡ 0
+seen-invalid o j d r e q = rw (role_is o r Invalid e q)
 
 -- so many trailing bytes were passed, and the bytes before `at` tell the rest
 pub record Seeking (F : Form) (s : List ℕ) (passed at : ℕ) : Type 0 where
@@ -51,7 +39,7 @@ seeking_begin = record { counted = omega arith; told = refl }
 pub seeking_end : {F : Form} {s : List ℕ} {passed at : ℕ} → Seeking F s passed at → at ≤ 0 → 0 ≡ distance_back F 0 (units_before (length s) s)
 seeking_end {F} {s} {passed} {at} k h = let z : at ≡ 0 = omega arith in sym (k.told ∙ ap (λ (x : ℕ). distance_back F passed (units_before x s)) z)
 
-module _ {F : Form} {s : List ℕ} {passed at n : ℕ} (k : Seeking F s passed at) (h : 0 < at) (e : n ≡ role_number (F.role (get_or s (at - 1) 0))) where
+module _ {F : Form} {s : List ℕ} {passed at : ℕ} (k : Seeking F s passed at) (h : 0 < at) (r : ByteRole) (e : r ≡ role_seen (F.role (get_or s (at - 1) 0))) where
   -- what the bytes before the next one tell
   abbrev rest : ℕ
   rest = distance_back F (suc passed) (units_before (at - 1) s)
@@ -59,30 +47,28 @@ module _ {F : Form} {s : List ℕ} {passed at n : ℕ} (k : Seeking F s passed a
   next : distance_back F 0 (units_before (length s) s) ≡ distance_at (F.role (get_or s (at - 1) 0)) passed rest
   next = let q : at ≡ suc (at - 1) = omega arith in k.told ∙ ap (λ (x : ℕ). distance_back F passed (units_before x s)) q
 
-  pub seeking_more : ((u j : ℕ) → F.role u ≡ lead j → j < 8) → n ≡ 9 → Seeking F s (passed + 1) (at - 1)
-  seeking_more short q =
-      let j : suc passed ≡ passed + 1 = omega arith in
+  pub seeking_more : r ≡ Trailing → {m : ℕ} → m ≡ passed + 1 → Seeking F s m (at - 1)
+  seeking_more q {m} l =
+      let j : suc passed ≡ m = omega arith in
       record {
         counted = omega (arith, k.counted);
         told =
             next
-            ∙ number-trailing (F.role (get_or s (at - 1) 0)) passed rest n (short (get_or s (at - 1) 0)) e q
+            ∙ seen-trailing (F.role (get_or s (at - 1) 0)) passed rest r e q
             ∙ ap (λ (x : ℕ). distance_back F x (units_before (at - 1) s)) j;
       }
 
-  module _ (o : n ≡ 9 → ⊥) where
-    pub seeking_takes : passed < n → passed ≡ distance_back F 0 (units_before (length s) s)
-    seeking_takes l = sym (next ∙ number_takes (F.role (get_or s (at - 1) 0)) passed rest n e o l)
+  pub seeking_takes : (n : ℕ) → r ≡ Lead n → passed < n → passed ≡ distance_back F 0 (units_before (length s) s)
+  seeking_takes n q l = sym (next ∙ seen_takes (F.role (get_or s (at - 1) 0)) passed rest n r e q l)
 
-    pub seeking_leaves : n ≤ passed → 0 ≡ distance_back F 0 (units_before (length s) s)
-    seeking_leaves l = sym (next ∙ number_leaves (F.role (get_or s (at - 1) 0)) passed rest n e o l)
+  pub seeking_leaves : (n : ℕ) → r ≡ Lead n → n ≤ passed → 0 ≡ distance_back F 0 (units_before (length s) s)
+  seeking_leaves n q l = sym (next ∙ seen_leaves (F.role (get_or s (at - 1) 0)) passed rest n r e q l)
 
--- the answer, where as many bytes as the longest item has were searched, up to the asked one
-pub part_near :
-    (F : Form) → Laws F → (s : List ℕ) (p from n d : ℕ) → length s ≤ limit → p < length s → n ≡ F.longest → from ≡ p + 1 - n
-    → d ≡ distance_back F 0 (units_before (length (take (p + 1 - from) (drop from s))) (take (p + 1 - from) (drop from s))) → Near F s p d
-part_near F laws s p from n d w h l b e =
-    near F laws s p d w h
-    (rw b at e
-    ∙ ap (distance_back F 0)
-    (part_nearest n (p + 1) s (omega arith) ∙ ap (λ (x : ℕ). nearest x (p + 1) s) l ∙ ap (λ (x : ℕ). nearest F.longest x s) (add-one p)))
+  pub seeking_stops : r ≡ Invalid → 0 ≡ distance_back F 0 (units_before (length s) s)
+  seeking_stops q = sym (next ∙ seen-invalid (F.role (get_or s (at - 1) 0)) passed rest r e q)
+
+-- as many bytes as were asked for, up to a place, are the nearest there
+pub nearest_part :
+    (s : List ℕ) (p from n : ℕ) → p < length s → from ≡ p + 1 - n
+    → let t = take (p + 1 - from) (drop from s) in units_before (length t) t ≡ nearest n (suc p) s
+nearest_part s p from n h b = rw b (part_nearest n (p + 1) s (omega arith) ∙ ap (λ (x : ℕ). nearest n x s) (add-one p))

@@ -1,65 +1,51 @@
 // FSS-UTF and UTF-EBCDIC: the start by the nearest bytes alone.
-ghost use Rattle.std.specs.Prelude.{◌≡◌, ◌-◌, length};
-ghost use Rattle.forms.specs.Finder.{item_covering};
-ghost use Rattle.laws.specs.Finder.{units_before};
+ghost use Rattle.std.specs.Prelude.{◌≡◌, suc, ◌<◌, length};
+ghost use Rattle.laws.specs.Finder.{units_before, nearest};
 ghost use Rattle.laws.proofs.Distances.{distance_back};
 ghost use Rattle.tables.specs.ByteForms.{byte_form};
 
-use reader::{FssUtf, UtfEbcdic};
-use tables::ByteForm;
-use types::Found;
+use crate::FindsStart;
+use reader::LongestItem;
+use tables::{ByteForm, ByteRole};
+use types::{FssUtf, UtfEbcdic};
 
-// How many bytes the form's longest item has.
-fn longest(form: ByteForm) -> usize
-    ensures { result ≡ (byte_form form).longest }
+// The byte at an offset and those before it, `count` in all: fewer at the text's start.
+fn up_to(text: &[u8], offset: usize, count: usize) -> &[u8]
+    requires { offset < length text.now }
+    ensures { units_before (length result.now) result.now ≡ nearest count (suc offset) text.now }
 {
-    match form {
-        ByteForm::FssUtf => FssUtf::LONGEST,
-        ByteForm::UtfEbcdic => UtfEbcdic::LONGEST,
-    }
-}
-
-// Where the last `count` units before an offset begin: at the text's start where there are fewer.
-fn back(offset: usize, count: usize) -> usize
-    ensures { result ≡ offset - count }
-{
-    if offset <= count {
-        return 0;
-    }
-    offset - count
+    let to = offset + 1;
+    &text[to.saturating_sub(count)..to]
 }
 
 // How far before the last of these bytes its item starts. They are all that is looked at, backwards: trailing bytes up to the lead that takes them.
 fn distance_back(form: ByteForm, near: &[u8]) -> usize
     ensures { result ≡ distance_back (byte_form form) 0 (units_before (length near.now) near.now) }
 {
-    let mut passed: usize = 0;
-    let mut at = near.len();
-    while 0 < at {
-        at -= 1;
-        let role = tables::role(form, tables::plain(form, near[at])) as usize;
-        if role != 9 {
-            if passed < role {
-                return passed;
+    for at in (0..near.len()).rev() {
+        match tables::role(form, tables::plain(form, near[at])) {
+            ByteRole::Trailing => {}
+            ByteRole::Lead(length) => {
+                let passed = near.len() - 1 - at;
+                if passed < length {
+                    return passed;
+                }
+                return 0;
             }
-            return 0;
+            ByteRole::Invalid => return 0,
         }
-        passed += 1;
     }
     0
 }
 
-pub fn item_covering(form: ByteForm, text: &[u8], offset: usize) -> Found
-    ensures { result ≡ item_covering (byte_form form) text.now offset }
-{
-    if 65536 < text.len() {
-        return Found::Refused(answers::source_too_long());
+impl FindsStart for FssUtf {
+    fn distance_back(text: &[u8], offset: usize) -> usize {
+        distance_back(ByteForm::FssUtf, up_to(text, offset, FssUtf::LONGEST))
     }
-    if text.len() <= offset {
-        return Found::Refused(answers::offset_out_of_range(offset));
+}
+
+impl FindsStart for UtfEbcdic {
+    fn distance_back(text: &[u8], offset: usize) -> usize {
+        distance_back(ByteForm::UtfEbcdic, up_to(text, offset, UtfEbcdic::LONGEST))
     }
-    let to = offset + 1;
-    let from = back(to, longest(form));
-    let start = offset - distance_back(form, &text[from..to]);
-    Found::Covered(items::bytes::item_at(form, text, start))
 }

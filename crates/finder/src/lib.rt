@@ -1,40 +1,39 @@
-// The finders of the four forms: public calls, which ask nothing of their caller.
+// The finder of the four forms, `item_covering`: a public call, which asks nothing of its caller. `FindsStart` is what it needs of a form.
 //
-// Each gives the item, in the reading of the whole text, that covers the asked offset: `FindsItem` in `specs/Finder` of `forms`. It looks
+// It gives the item, in the reading of the whole text, that covers the asked offset: `FindsItem` in `specs/Finder` of `forms`. It looks
 // for the start at the asked code unit and at those before it that the longest item reaches, and reads the item there: its cost does not grow
-// with the text. `bytes`, `utf16` and `ucs4` have them by the width of the code units.
+// with the text. `bytes`, `utf16` and `ucs4` say how far back the start lies.
 #![tactic(auto)]
 
 mod bytes;
 mod ucs4;
 mod utf16;
 
-ghost use Rattle.forms.specs.Forms.{fss_utf, utf_ebcdic, utf16, ucs4};
+ghost use Rattle.std.specs.Prelude.{◌≡◌, suc, ◌<◌, length};
 ghost use Rattle.forms.specs.Finder.{FindsItem};
+ghost use Rattle.laws.specs.Finder.{nearest};
+ghost use Rattle.laws.proofs.Distances.{distance_back};
 
-use tables::ByteForm;
-use types::Found;
+use reader::Reader;
+use types::{Item, Refusal};
 
-pub fn fss_utf_item_covering(text: &[u8], offset: usize) -> Found
-    ensures { FindsItem fss_utf text.now offset result }
-{
-    crate::bytes::item_covering(ByteForm::FssUtf, text, offset)
+// A form whose items are found from their middle.
+pub trait FindsStart: Reader {
+    // How far before the offset the item that covers it starts.
+    fn distance_back(text: &[Self::Unit], offset: usize) -> usize
+        requires { offset < length text.now }
+        ensures { result ≡ distance_back Self.form 0 (nearest Self.form.longest (suc offset) (Self.units text.now)) };
 }
 
-pub fn utf_ebcdic_item_covering(text: &[u8], offset: usize) -> Found
-    ensures { FindsItem utf_ebcdic text.now offset result }
+pub fn item_covering<F: FindsStart>(text: &[F::Unit], offset: usize) -> Result<Item, Refusal>
+    ensures { FindsItem F.form (F.units text.now) offset result }
 {
-    crate::bytes::item_covering(ByteForm::UtfEbcdic, text, offset)
-}
-
-pub fn utf16_item_covering(text: &[u16], offset: usize) -> Found
-    ensures { FindsItem utf16 text.now offset result }
-{
-    crate::utf16::item_covering(text, offset)
-}
-
-pub fn ucs4_item_covering(text: &[u32], offset: usize) -> Found
-    ensures { FindsItem ucs4 text.now offset result }
-{
-    crate::ucs4::item_covering(text, offset)
+    if 65536 < text.len() {
+        return Err(answers::source_too_long());
+    }
+    if text.len() <= offset {
+        return Err(answers::offset_out_of_range(offset));
+    }
+    let start = offset - F::distance_back(text, offset);
+    Ok(F::item_at(text, start))
 }

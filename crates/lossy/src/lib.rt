@@ -3,41 +3,77 @@
 // A text's items go into two lent buffers: the value of each (FFFFFFFF for a mark) and its start. `specs/Lossy` of `forms` says what each
 // call gives, and `specs/Demand3` of `demand3` what its caller has for every text of characters, any code units, and characters.
 //
-// The loops are `from_bytes`, `from_utf16` and `from_ucs4`: each tests the `room`, and writes only then; what they keep is `Filling` of
-// `lossy_runs`.
+// A decoding tests the room first, and writes only then; what its loop keeps is `Filling` of `lossy_runs`.
 #![tactic(auto)]
 
-mod from_bytes;
-mod from_ucs4;
-mod from_utf16;
-mod room;
-
-ghost use Rattle.forms.specs.Forms.{fss_utf, utf_ebcdic, utf16, ucs4};
+ghost use Rattle.std.specs.Prelude.{◌≡◌, ◌&&◌, leb, ◌≤◌, length};
+ghost use Rattle.forms.specs.Form.{items};
 ghost use Rattle.demand3.specs.Demand3.{DecodesLossy};
 
-use tables::ByteForm;
-use types::Decoding;
+use items::SourceForm;
+use lossy_runs::LossyRuns;
+pub use types::{FssUtf, Ucs4, Utf16, UtfEbcdic};
+use types::{Counts, Refusal};
 
-pub fn fss_utf_decode_lossy(text: &[u8], values: &mut [u32], starts: &mut [u32]) -> Decoding
-    ensures { DecodesLossy fss_utf text.now values.old starts.old result values.new starts.new }
+// How many items a text has.
+fn count<F: SourceForm>(text: &[F::Unit]) -> usize
+    requires { length text.now ≤ 65536 }
+    ensures { result ≡ length (items F.form (F.units text.now)) }
 {
-    crate::from_bytes::decode_lossy(ByteForm::FssUtf, text, values, starts)
+    let mut at: usize = 0;
+    let mut count: usize = 0;
+    // No `for`: a turn steps by an item, and only finds out how long that is.
+    while at < text.len() {
+        let span = answers::span(F::item_at(text, at));
+        count += 1;
+        at += span.length;
+    }
+    count
 }
 
-pub fn utf_ebcdic_decode_lossy(text: &[u8], values: &mut [u32], starts: &mut [u32]) -> Decoding
-    ensures { DecodesLossy utf_ebcdic text.now values.old starts.old result values.new starts.new }
+// Whether there is room for all items: for as many as there are code units there is no need to count.
+fn has_room<F: SourceForm>(text: &[F::Unit], values: usize, starts: usize) -> bool
+    requires { length text.now ≤ 65536 }
+    ensures { result ≡ (leb (length (items F.form (F.units text.now))) values && leb (length (items F.form (F.units text.now))) starts) }
 {
-    crate::from_bytes::decode_lossy(ByteForm::UtfEbcdic, text, values, starts)
+    if text.len() <= values.min(starts) {
+        return true;
+    }
+    let needed = count::<F>(text);
+    (needed <= values) & (needed <= starts)
 }
 
-pub fn utf16_decode_lossy(text: &[u16], values: &mut [u32], starts: &mut [u32]) -> Decoding
-    ensures { DecodesLossy utf16 text.now values.old starts.old result values.new starts.new }
+// Values and starts go into two buffers, as C lends them.
+pub fn decode_lossy<F: LossyRuns>(
+    text: &[F::Unit],
+    values: &mut [u32],
+    starts: &mut [u32],
+) -> Result<Counts, Refusal>
+    ensures { DecodesLossy F.form (F.units text.now) values.old starts.old result values.new starts.new }
 {
-    crate::from_utf16::decode_lossy(text, values, starts)
-}
-
-pub fn ucs4_decode_lossy(text: &[u32], values: &mut [u32], starts: &mut [u32]) -> Decoding
-    ensures { DecodesLossy ucs4 text.now values.old starts.old result values.new starts.new }
-{
-    crate::from_ucs4::decode_lossy(text, values, starts)
+    if 65536 < text.len() {
+        return Err(answers::source_too_long());
+    }
+    if !has_room::<F>(text, values.len(), starts.len()) {
+        return Err(answers::buffer_too_short());
+    }
+    let mut at: usize = 0;
+    let mut items: usize = 0;
+    let mut marks: usize = 0;
+    // No `for`: a turn steps by a run or an item, and only finds out how long that is.
+    while at < text.len() {
+        let run = F::read_on(text, at, values, starts, items);
+        if run.at != at {
+            at = run.at;
+            items = run.items;
+            continue;
+        }
+        let item = F::item_at(text, at);
+        values[items] = answers::value(item);
+        starts[items] = at as u32;
+        items += 1;
+        marks += answers::mark_count(item);
+        at += answers::span(item).length;
+    }
+    Ok(Counts { items, marks })
 }

@@ -12,7 +12,6 @@ use Rattle.types.specs.declared.Fault.TheVariants.{SourceTooLong, BufferTooShort
 use Rattle.types.specs.declared.Span.{Span}
 use Rattle.types.specs.declared.Item.{Item}
 use Rattle.types.specs.declared.Refusal.{Refusal}
-use Rattle.types.specs.declared.Decoding.TheVariants.{Decoded, Refused}
 use Rattle.forms.specs.Fault.{limit, refusal}
 use Rattle.forms.specs.Buffer.{with_units}
 use Rattle.forms.specs.Form.{Form, items}
@@ -27,6 +26,7 @@ use Rattle.laws.proofs.Table.{and_left, and_right}
 use Rattle.lossy_runs.specs.ReadOn.{Room, ReadOn}
 use Rattle.lossy_runs.proofs.ReadingOn.{fill, read_nothing}
 use Rattle.demand3.proofs.LossyCalls.{lossy-over, lossy-short-values, lossy-short-starts, lossy-all, promise}
+use Rattle.std.specs.Prelude.{Ok, Err}
 
 -- the items before `at` stand in both buffers, and there is room for all
 pub record Filling (F : Form) (s d e : List ℕ) (at n m : ℕ) (o p : List ℕ) : Type 0 where
@@ -50,21 +50,21 @@ holding d xs ys o v n b e h g k = let m = holds_more d xs ys o v n b (record { c
 
 module _ {F : Form} {s d e : List ℕ} where
   module _ {r : Refusal} (laws : Laws F) where
-    refusing : (q : Refusal) → lossy F s (length d) (length e) ≡ refused q → r ≡ q → DecodesLossy F s d e (Refused r) d e
+    refusing : (q : Refusal) → lossy F s (length d) (length e) ≡ refused q → r ≡ q → DecodesLossy F s d e (Err r) d e
     refusing q x z =
-        promise F laws s d e (Refused r) d e (ap Refused z ∙ sym (ap answer_of x)) (sym (ap (λ (y : Outcome). values_in y d) x)) (sym (ap (λ (y : Outcome). starts_in y e) x))
+        promise F laws s d e (Err r) d e (ap Err z ∙ sym (ap answer_of x)) (sym (ap (λ (y : Outcome). values_in y d) x)) (sym (ap (λ (y : Outcome). starts_in y e) x))
 
-    pub filling_over : r ≡ refusal SourceTooLong 0 → limit < length s → DecodesLossy F s d e (Refused r) d e
+    pub filling_over : r ≡ refusal SourceTooLong 0 → limit < length s → DecodesLossy F s d e (Err r) d e
     filling_over z h = refusing (refusal SourceTooLong 0) (lossy-over F s (length d) (length e) h) z
 
     pub filling_short :
         {b : Bool} → r ≡ refusal BufferTooShort 0 → length s ≤ limit → b ≡ (leb (length (items F s)) (length d) && leb (length (items F s)) (length e)) → b ≡ false
-        → DecodesLossy F s d e (Refused r) d e
+        → DecodesLossy F s d e (Err r) d e
     filling_short z h c l = go (leb (length (items F s)) (length d)) refl (leb (length (items F s)) (length e)) refl (sym c ∙ l)
       where
         go :
             (x : Bool) → leb (length (items F s)) (length d) ≡ x → (y : Bool) → leb (length (items F s)) (length e) ≡ y → (x && y) ≡ false
-            → DecodesLossy F s d e (Refused r) d e
+            → DecodesLossy F s d e (Err r) d e
         go false f y g n = refusing (refusal BufferTooShort 0) (lossy-short-values F s (length d) (length e) h (leb-false _ _ f)) z
         go true f false g n = refusing (refusal BufferTooShort 0) (lossy-short-starts F s (length d) (length e) h (leb-false _ _ g)) z
         go true f true g n = absurd (let t : ◌≡◌ {A = ℕ} 0 1 = cc in omega arith)
@@ -91,12 +91,12 @@ module _ {F : Form} {s d e : List ℕ} where
       }
 
   module _ {at n m : ℕ} {o p : List ℕ} where
-    pub filling_end : Laws F → Filling F s d e at n m o p → length s ≤ at → DecodesLossy F s d e (Decoded (counts n m)) o p
+    pub filling_end : Laws F → Filling F s d e at n m o p → length s ≤ at → DecodesLossy F s d e (Ok (counts n m)) o p
     filling_end laws f h =
         let is = read-end f.read h in
         let x = lossy-all F s (length d) (length e) f.short f.room-values f.room-starts ∙ ap decoded is in
-        promise F laws s d e (Decoded (counts n m)) o p
-        (ap (λ (c : ℕ). Decoded (counts c m)) f.counted ∙ ap (λ (c : ℕ). Decoded (counts (length f.done) c)) f.marked ∙ sym (ap answer_of x))
+        promise F laws s d e (Ok (counts n m)) o p
+        (ap (λ (c : ℕ). Ok (counts c m)) f.counted ∙ ap (λ (c : ℕ). Ok (counts (length f.done) c)) f.marked ∙ sym (ap answer_of x))
         (f.values ∙ ap (λ (c : ℕ). map value_of f.done ++ drop c d) f.counted ∙ sym (ap (λ (y : Outcome). values_in y d) x))
         (f.starts ∙ ap (λ (c : ℕ). map offset_of f.done ++ drop c e) f.counted ∙ sym (ap (λ (y : Outcome). starts_in y e) x))
 

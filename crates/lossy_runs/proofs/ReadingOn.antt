@@ -12,13 +12,13 @@ use Rattle.types.specs.declared.Item.{Item}
 use Rattle.types.specs.declared.Item.TheVariants.{Character}
 use Rattle.forms.specs.Form.{Form, size, span, span_of}
 use Rattle.forms.specs.Buffer.{with_units}
-use Rattle.forms.specs.Lossy.{value_of, offset_of, marks}
+use Rattle.forms.specs.Lossy.{value_of, offset_of}
 use Rattle.laws.proofs.Items.{items_onward, sequence_at, items_step, length_at}
 use Rattle.laws.proofs.ReadItems.{ItemAt, item-onward}
 use Rattle.laws.proofs.Marks.{marks-append}
 use Rattle.laws.proofs.Progress.{CharacterAt}
 use Rattle.laws.proofs.Buffers.{copy_begin, copy_more, copy_end, length_with}
-use Rattle.lossy_runs.specs.ReadOn.{Room, Between, ReadOn, offsets_from}
+use Rattle.lossy_runs.specs.ReadOn.{Room, Between, ReadOn, Singles, offsets_from}
 
 -- the first j units of a block of 16 copied over d from n on
 pub record Copied (d : List ℕ) (n : ℕ) (b : List ℕ) (j : ℕ) (o : List ℕ) : Type 0 where
@@ -78,15 +78,6 @@ offsets_more : (at k : ℕ) → offsets_from at (suc k) ≡ offsets_from at k ++
 offsets_more at zero = rw (add-zero at)
 offsets_more at (suc k) =
     ap {B = List ℕ} (λ (x : List ℕ). at ∷ x) (offsets_more (suc at) k ∙ ap {B = List ℕ} (λ (n : ℕ). offsets_from (suc at) k ++ (n ∷ [])) (omega arith))
-
--- k units from `at` on are characters by themselves, and the first k cells of b their values
-pub record Singles (F : Form) (s : List ℕ) (at k : ℕ) (b : List ℕ) : Type 0 where
-  pub done : List Item
-  pub read : Between F s at (at + k) done
-  pub counted : length done ≡ k
-  pub values : map value_of done ≡ take k b
-  pub starts : map offset_of done ≡ offsets_from at k
-  pub unmarked : marks done ≡ 0
 
 -- a loop that loads a block of 16 of them, where a test comes out right
 pub record Loading (F : Form) (s : List ℕ) (at j : ℕ) (b : List ℕ) (Right : Type 0) : Type 0 where

@@ -1,17 +1,19 @@
 -- Characters of one code unit of UTF-16 and UCS-4, by the tests that the blocks of a lossy decoding make.
 use Prim.Native.Nat.{ℕ, ◌+◌, ◌<◌}
-use mathlib.Core.Path.{◌≡◌, refl, sym, ◌∙◌}
-use mathlib.Core.Bool.{Bool, true, false, ◌&&◌}
+use mathlib.Core.Path.{◌≡◌, sym, ◌∙◌}
+use mathlib.Core.Bool.{Bool, false}
 use mathlib.Core.List.{List}
 use native.Mathlib.Omega.{arith}
+use native.Mathlib.Decide.{dec_lt}
 use borrow.Author.Count.{below_more}
-use borrow.Author.Tests.{le-leb, leb-false, ltb-true, ltb-false}
-use lib.Dec.{leb, ltb}
+use borrow.Author.Tests.{leb-false}
+use lib.Dec.{leb}
 use lib.ListN.{length, get_or, set}
 use lib.Seq.{get_or-set_same, get_or-set_other}
 use Rattle.forms.specs.Form.{span}
 use Rattle.forms.specs.Forms.{is_surrogate, utf16, ucs4}
 use Rattle.laws.proofs.Rows.{within_below}
+use Rattle.laws.proofs.Carried.{outside}
 use Rattle.laws.proofs.Progress.{CharacterAt}
 use Rattle.items.proofs.WholeUnits.{ucs4-character}
 use Rattle.characters.proofs.Shorts.{unit_below, unit_above}
@@ -54,16 +56,12 @@ module _ (b : List ℕ) (k x : ℕ) (h : k < length b) where
 
 module _ {s : List ℕ} {p : ℕ} where
   -- no surrogate
-  pub lone_unit : {x : ℕ} → p < length s → x ≡ get_or s p 0 → x < 0x10000 → (leb 0xD800 x && ltb x 0xE000) ≡ false → CharacterAt utf16 s p x (span p 1)
-  lone_unit {x} h e l t = go (ltb x 0xD800) refl (ltb x 0xE000) refl
+  pub lone_unit : {x : ℕ} → p < length s → x ≡ get_or s p 0 → x < 0x10000 → is_surrogate x ≡ false → CharacterAt utf16 s p x (span p 1)
+  lone_unit {x} h e l t = go (dec_lt x 0xD800)
     where
-      go : (a : Bool) → ltb x 0xD800 ≡ a → (b : Bool) → ltb x 0xE000 ≡ b → CharacterAt utf16 s p x (span p 1)
-      go true f b g = (unit_below h e (ltb-true x 0xD800 f)).character (λ z. omega arith)
-      go false f false g = (unit_above h e (ltb-false x 0xE000 g) l).character (λ z. omega arith)
-      go false f true g =
-          absurd
-          (let w : (leb 0xD800 x && ltb x 0xE000) ≡ true = rw (le-leb 0xD800 x (ltb-false x 0xD800 f), g) in
-          let z : ◌≡◌ {A = ℕ} 0 1 = cc (sym w ∙ t) in omega arith)
+      go : Dec (x < 0xD800) → CharacterAt utf16 s p x (span p 1)
+      go (yes f) = unit_below h e f
+      go (no f) = unit_above h e (outside x (rw t) (omega arith)) l
 
   pub ucs4-unit : {x : ℕ} → p < length s → x ≡ get_or s p 0 → Carried x → CharacterAt ucs4 s p x (span p 1)
   ucs4-unit {x} h e c =

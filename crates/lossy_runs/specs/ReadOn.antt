@@ -1,5 +1,5 @@
 -- Items that a lossy decoding reads in one step, inner: what a function that reads them asks and promises.
-use Rattle.std.specs.Prelude.{ℕ, zero, suc, ◌+◌, ◌≤◌, ◌≡◌, List, [], ◌∷◌, ◌++◌, map, length}
+use Rattle.std.specs.Prelude.{ℕ, zero, suc, ◌+◌, ◌≤◌, ◌≡◌, List, [], ◌∷◌, ◌++◌, map, length, take}
 use Rattle.types.specs.declared.Item.{Item}
 use Rattle.forms.specs.Fault.{limit}
 use Rattle.forms.specs.Form.{Form}
@@ -35,3 +35,12 @@ pub record ReadOn (F : Form) (s : List ℕ) (at to : ℕ) (d e : List ℕ) (c b 
 abbrev pub offsets_from : ℕ → ℕ → List ℕ
 offsets_from at zero = []
 offsets_from at (suc k) = at ∷ offsets_from (suc at) k
+
+-- k units from `at` on are characters by themselves, and the first k cells of b their values
+pub record Singles (F : Form) (s : List ℕ) (at k : ℕ) (b : List ℕ) : Type 0 where
+  pub done : List Item
+  pub read : Between F s at (at + k) done
+  pub counted : length done ≡ k
+  pub values : map value_of done ≡ take k b
+  pub starts : map offset_of done ≡ offsets_from at k
+  pub unmarked : marks done ≡ 0

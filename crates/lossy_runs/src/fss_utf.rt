@@ -1,85 +1,43 @@
 // FSS-UTF.
-ghost use Rattle.std.specs.Prelude.{◌≡◌, length};
-ghost use Rattle.forms.specs.Forms.{fss_utf};
-ghost use Rattle.lossy_runs.specs.ReadOn.{Room, ReadOn};
+use crate::blocks::Blocks;
+use crate::{LossyRuns, Read};
+use characters::Character;
+use types::FssUtf;
 
-use crate::Read;
+impl Blocks for FssUtf {
+    const REACH: usize = 128;
 
-fn wide(byte: u8) -> u32
-    ensures { result ≡ byte }
-{
-    byte as u32
-}
-
-// A block of characters of one byte, where it is one. It is copied here: by a function of its own the copy is not vectorised.
-fn block_at(text: &[u8], at: usize, values: &mut [u32], starts: &mut [u32], items: usize) -> Read
-    requires { Room fss_utf text.now at items (length values.old) (length starts.old) }
-    ensures { ReadOn fss_utf text.now at result.at values.old starts.old items result.items values.new starts.new }
-{
-    if text.len() - at < 16 {
-        return Read { at, items };
-    }
-    if 0x80 <= text[at] {
-        return Read { at, items };
-    }
-    let mut block = [0u32; 16];
-    let mut all: u32 = 0;
-    let mut j: usize = 0;
-    while j < 16 {
-        let unit = wide(text[at + j]);
-        block[j] = unit;
-        all = all | unit;
-        j += 1;
-    }
-    if 0x80 <= all {
-        return Read { at, items };
-    }
-    let mut k: usize = 0;
-    while k < 16 {
-        values[items + k] = block[k];
-        k += 1;
-    }
-    crate::put_offsets(at, starts, items);
-    Read {
-        at: at + 16,
-        items: items + 16,
-    }
-}
-
-// Some characters, one after the other.
-fn some_at(text: &[u8], at: usize, values: &mut [u32], starts: &mut [u32], items: usize) -> Read
-    requires { Room fss_utf text.now at items (length values.old) (length starts.old) }
-    ensures { ReadOn fss_utf text.now at result.at values.old starts.old items result.items values.new starts.new }
-{
-    let stop = crate::stop_at(at, 128, text.len());
-    let mut to = at;
-    let mut cell = items;
-    while to < stop {
-        let next = characters::fss_utf::short_at(text, to);
-        let length = next.length;
-        if length == 0 {
-            break;
+    // Characters of one byte.
+    fn block_at(text: &[u8], at: usize) -> Option<[u32; 16]> {
+        if 0x80 <= text[at] {
+            return None;
         }
-        values[cell] = next.value;
-        starts[cell] = to as u32;
-        cell += 1;
-        to += length;
+        let mut block = [0u32; 16];
+        let mut all: u32 = 0;
+        for j in 0..16 {
+            let unit = u32::from(text[at + j]);
+            block[j] = unit;
+            all |= unit;
+        }
+        if 0x80 <= all {
+            return None;
+        }
+        Some(block)
     }
-    Read {
-        at: to,
-        items: cell,
+
+    fn character_at(text: &[u8], at: usize) -> Option<Character> {
+        characters::fss_utf::short_at(text, at)
     }
 }
 
-// Characters from an offset on, none where there may be a mark.
-pub fn read_on(text: &[u8], at: usize, values: &mut [u32], starts: &mut [u32], items: usize) -> Read
-    requires { Room fss_utf text.now at items (length values.old) (length starts.old) }
-    ensures { ReadOn fss_utf text.now at result.at values.old starts.old items result.items values.new starts.new }
-{
-    let block = block_at(text, at, values, starts, items);
-    let to = block.at;
-    if to != at {
-        return block;
+impl LossyRuns for FssUtf {
+    fn read_on(
+        text: &[u8],
+        at: usize,
+        values: &mut [u32],
+        starts: &mut [u32],
+        items: usize,
+    ) -> Read {
+        crate::blocks::read_on::<FssUtf>(text, at, values, starts, items)
     }
-    some_at(text, at, values, starts, items)
 }

@@ -1,10 +1,11 @@
 // UCS-4.
-ghost use Rattle.std.specs.Prelude.{◌≡◌, false, ◌<◌, length};
-ghost use Rattle.forms.specs.Forms.{ucs4};
-ghost use Rattle.lossy_runs.specs.ReadOn.{Room, ReadOn};
+ghost use Rattle.std.specs.Prelude.{◌≡◌, false, ◌<◌};
 ghost use Rattle.lossy_runs.specs.Ucs4Units.{Carried, AllCarried};
 
-use crate::Read;
+use crate::blocks::Blocks;
+use crate::{LossyRuns, Read};
+use characters::Character;
+use types::Ucs4;
 
 // Whether a unit is no character: most lie below the surrogates.
 fn is_mark(unit: u32) -> bool
@@ -25,86 +26,47 @@ fn has_mark(block: &[u32; 16], all: u32) -> bool
         return false;
     }
     let mut bad = false;
-    let mut k: usize = 0;
-    while k < 16 {
-        let unit = block[k];
-        bad = bad | items::is_surrogate(unit) | (unit >= 0x80000000);
-        k += 1;
+    for unit in block {
+        bad |= items::is_surrogate(*unit) | (*unit >= 0x80000000);
     }
     bad
 }
 
-// A block of characters, where it is one.
-fn block_at(text: &[u32], at: usize, values: &mut [u32], starts: &mut [u32], items: usize) -> Read
-    requires { Room ucs4 text.now at items (length values.old) (length starts.old) }
-    ensures { ReadOn ucs4 text.now at result.at values.old starts.old items result.items values.new starts.new }
-{
-    if text.len() - at < 16 {
-        return Read { at, items };
-    }
-    let mut block = [0u32; 16];
-    let mut all: u32 = 0;
-    let mut j: usize = 0;
-    while j < 16 {
-        let unit = text[at + j];
-        block[j] = unit;
-        all = all | unit;
-        j += 1;
-    }
-    if has_mark(&block, all) {
-        return Read { at, items };
-    }
-    let mut k: usize = 0;
-    while k < 16 {
-        values[items + k] = block[k];
-        k += 1;
-    }
-    crate::put_offsets(at, starts, items);
-    Read {
-        at: at + 16,
-        items: items + 16,
-    }
-}
+impl Blocks for Ucs4 {
+    // No more than a block: behind a mark the next may be one.
+    const REACH: usize = 16;
 
-// Some characters, one after the other.
-fn some_at(text: &[u32], at: usize, values: &mut [u32], starts: &mut [u32], items: usize) -> Read
-    requires { Room ucs4 text.now at items (length values.old) (length starts.old) }
-    ensures { ReadOn ucs4 text.now at result.at values.old starts.old items result.items values.new starts.new }
-{
-    let stop = crate::stop_at(at, 16, text.len());
-    let mut to = at;
-    let mut cell = items;
-    while to < stop {
-        let unit = text[to];
-        if is_mark(unit) {
-            break;
+    fn block_at(text: &[u32], at: usize) -> Option<[u32; 16]> {
+        let mut block = [0u32; 16];
+        let mut all: u32 = 0;
+        for j in 0..16 {
+            let unit = text[at + j];
+            block[j] = unit;
+            all |= unit;
         }
-        values[cell] = unit;
-        starts[cell] = to as u32;
-        cell += 1;
-        to += 1;
+        if has_mark(&block, all) {
+            return None;
+        }
+        Some(block)
     }
-    Read {
-        at: to,
-        items: cell,
+
+    fn character_at(text: &[u32], at: usize) -> Option<Character> {
+        let value = text[at];
+        if is_mark(value) {
+            return None;
+        }
+        Some(Character { value, length: 1 })
     }
 }
 
-// Characters from an offset on, none where there may be a mark.
-pub fn read_on(
-    text: &[u32],
-    at: usize,
-    values: &mut [u32],
-    starts: &mut [u32],
-    items: usize,
-) -> Read
-    requires { Room ucs4 text.now at items (length values.old) (length starts.old) }
-    ensures { ReadOn ucs4 text.now at result.at values.old starts.old items result.items values.new starts.new }
-{
-    let block = block_at(text, at, values, starts, items);
-    let to = block.at;
-    if to != at {
-        return block;
+impl LossyRuns for Ucs4 {
+    fn read_on(
+        text: &[u32],
+        at: usize,
+        values: &mut [u32],
+        starts: &mut [u32],
+        items: usize,
+    ) -> Read {
+        crate::blocks::read_on::<Ucs4>(text, at, values, starts, items)
     }
-    some_at(text, at, values, starts, items)
 }

@@ -1,88 +1,40 @@
 // UTF-16.
-ghost use Rattle.std.specs.Prelude.{◌≡◌, length};
-ghost use Rattle.forms.specs.Forms.{utf16};
-ghost use Rattle.lossy_runs.specs.ReadOn.{Room, ReadOn};
+use crate::blocks::Blocks;
+use crate::{LossyRuns, Read};
+use characters::Character;
+use types::Utf16;
 
-use crate::Read;
+impl Blocks for Utf16 {
+    const REACH: usize = 128;
 
-fn wide(unit: u16) -> u32
-    ensures { result ≡ unit }
-{
-    unit as u32
-}
-
-// A block of characters of one unit, where it is one.
-fn block_at(text: &[u16], at: usize, values: &mut [u32], starts: &mut [u32], items: usize) -> Read
-    requires { Room utf16 text.now at items (length values.old) (length starts.old) }
-    ensures { ReadOn utf16 text.now at result.at values.old starts.old items result.items values.new starts.new }
-{
-    if text.len() - at < 16 {
-        return Read { at, items };
-    }
-    let mut block = [0u32; 16];
-    let mut found = false;
-    let mut j: usize = 0;
-    while j < 16 {
-        let unit = wide(text[at + j]);
-        block[j] = unit;
-        found = found | (unit >= 0xD800) & (unit < 0xE000);
-        j += 1;
-    }
-    if found {
-        return Read { at, items };
-    }
-    let mut k: usize = 0;
-    while k < 16 {
-        values[items + k] = block[k];
-        k += 1;
-    }
-    crate::put_offsets(at, starts, items);
-    Read {
-        at: at + 16,
-        items: items + 16,
-    }
-}
-
-// Some characters, one after the other.
-fn some_at(text: &[u16], at: usize, values: &mut [u32], starts: &mut [u32], items: usize) -> Read
-    requires { Room utf16 text.now at items (length values.old) (length starts.old) }
-    ensures { ReadOn utf16 text.now at result.at values.old starts.old items result.items values.new starts.new }
-{
-    let stop = crate::stop_at(at, 128, text.len());
-    let mut to = at;
-    let mut cell = items;
-    while to < stop {
-        let next = characters::utf16::short_at(text, to);
-        let length = next.length;
-        if length == 0 {
-            break;
+    // Units that are no surrogates.
+    fn block_at(text: &[u16], at: usize) -> Option<[u32; 16]> {
+        let mut block = [0u32; 16];
+        let mut found = false;
+        for j in 0..16 {
+            let unit = u32::from(text[at + j]);
+            block[j] = unit;
+            found |= items::is_surrogate(unit);
         }
-        values[cell] = next.value;
-        starts[cell] = to as u32;
-        cell += 1;
-        to += length;
+        if found {
+            return None;
+        }
+        Some(block)
     }
-    Read {
-        at: to,
-        items: cell,
+
+    fn character_at(text: &[u16], at: usize) -> Option<Character> {
+        characters::utf16::short_at(text, at)
     }
 }
 
-// Characters from an offset on, none where there may be a mark.
-pub fn read_on(
-    text: &[u16],
-    at: usize,
-    values: &mut [u32],
-    starts: &mut [u32],
-    items: usize,
-) -> Read
-    requires { Room utf16 text.now at items (length values.old) (length starts.old) }
-    ensures { ReadOn utf16 text.now at result.at values.old starts.old items result.items values.new starts.new }
-{
-    let block = block_at(text, at, values, starts, items);
-    let to = block.at;
-    if to != at {
-        return block;
+impl LossyRuns for Utf16 {
+    fn read_on(
+        text: &[u16],
+        at: usize,
+        values: &mut [u32],
+        starts: &mut [u32],
+        items: usize,
+    ) -> Read {
+        crate::blocks::read_on::<Utf16>(text, at, values, starts, items)
     }
-    some_at(text, at, values, starts, items)
 }

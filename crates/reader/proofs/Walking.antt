@@ -23,10 +23,11 @@ use Rattle.reader.specs.Step.{cursor, behind, step_over, step_at}
 use Rattle.reader.specs.Walk.{Moves, or_end, steps_from, moved_item, moved_step}
 use Rattle.reader.specs.declared.Cursor.{Cursor}
 use Rattle.reader.specs.declared.Step.{Step}
-use Rattle.reader.specs.declared.Step.TheVariants.{Next, Refused}
+use Rattle.reader.specs.declared.Step.TheVariants.{Next}
+use Rattle.std.specs.Prelude.{Result, Ok, Err}
 
 -- within the limit and the text a step is that of the units from its place on
-pub step_over_lem : (F : Form) (s : List ℕ) (c : Cursor) → length s ≤ limit → c.offset ≤ length s → step_at F s c ≡ step_over F c (drop c.offset s)
+pub step_over_lem : (F : Form) (s : List ℕ) (c : Cursor) → length s ≤ limit → c.offset ≤ length s → step_at F s c ≡ Ok (step_over F c (drop c.offset s))
 step_over_lem F s c w h = rw (le-ltb limit (length s) w, le-ltb (length s) c.offset h)
 
 length_of : (F : Form) (p u : ℕ) (us : List ℕ) → (span_of (item_of F p (first_of F u us))).length ≡ size (first_of F u us)
@@ -47,24 +48,24 @@ module _ (F : Form) (laws : Laws F) (some : 0 < F.longest) (s : List ℕ) where
 
   moves_if :
       (c d : Cursor) (i : Item) (a b : Bool) (r q : Refusal) → ltb (length s) c.offset ≡ b
-      → cond a (Refused r) (cond b (Refused q) (step_over F c (drop c.offset s))) ≡ Next i d → Moves F s c d
+      → cond a (Err r) (cond b (Err q) (Ok (step_over F c (drop c.offset s)))) ≡ Ok (Next i d) → Moves F s c d
   moves_if c d i true b r q e n = absurd (let z : ◌≡◌ {A = ℕ} 0 1 = cc in omega arith)
   moves_if c d i false true r q e n = absurd (let z : ◌≡◌ {A = ℕ} 0 1 = cc in omega arith)
-  moves_if c d i false false r q e n = moves-over c d i (drop c.offset s) refl n (ltb-false (length s) c.offset e)
+  moves_if c d i false false r q e n = moves-over c d i (drop c.offset s) refl (cc) (ltb-false (length s) c.offset e)
 
-  pub step_moves : (c d : Cursor) (i : Item) → step_at F s c ≡ Next i d → Moves F s c d
+  pub step_moves : (c d : Cursor) (i : Item) → step_at F s c ≡ Ok (Next i d) → Moves F s c d
   step_moves c d i n = moves_if c d i (ltb limit (length s)) (ltb (length s) c.offset) _ _ refl n
 
-pub fss_utf-moves : (s : List ℕ) (c d : Cursor) (i : Item) → step_at fss_utf s c ≡ Next i d → Moves fss_utf s c d
+pub fss_utf-moves : (s : List ℕ) (c d : Cursor) (i : Item) → step_at fss_utf s c ≡ Ok (Next i d) → Moves fss_utf s c d
 fss_utf-moves = step_moves fss_utf fss_utf_laws (omega arith)
 
-pub utf_ebcdic-moves : (s : List ℕ) (c d : Cursor) (i : Item) → step_at utf_ebcdic s c ≡ Next i d → Moves utf_ebcdic s c d
+pub utf_ebcdic-moves : (s : List ℕ) (c d : Cursor) (i : Item) → step_at utf_ebcdic s c ≡ Ok (Next i d) → Moves utf_ebcdic s c d
 utf_ebcdic-moves = step_moves utf_ebcdic utf_ebcdic_laws (omega arith)
 
-pub utf16-moves : (s : List ℕ) (c d : Cursor) (i : Item) → step_at utf16 s c ≡ Next i d → Moves utf16 s c d
+pub utf16-moves : (s : List ℕ) (c d : Cursor) (i : Item) → step_at utf16 s c ≡ Ok (Next i d) → Moves utf16 s c d
 utf16-moves = step_moves utf16 utf16_laws (omega arith)
 
-pub ucs4-moves : (s : List ℕ) (c d : Cursor) (i : Item) → step_at ucs4 s c ≡ Next i d → Moves ucs4 s c d
+pub ucs4-moves : (s : List ℕ) (c d : Cursor) (i : Item) → step_at ucs4 s c ≡ Ok (Next i d) → Moves ucs4 s c d
 ucs4-moves = step_moves ucs4 ucs4_laws (omega arith)
 
 -- "Reading at a place reads as though the text began there": a step at p is the step at 0 of the rest, p units further on
@@ -76,7 +77,7 @@ module _ (F : Form) where
   moved_item_lem : (p : ℕ) (c : Sequence) → item_of F p c ≡ moved_item p (item_of F 0 c)
   moved_item_lem p c = moved_content p (size c) (content F c)
 
-  moved_over : (p : ℕ) (l : List ℕ) → step_over F (cursor p) l ≡ moved_step p (step_over F (cursor 0) l)
+  moved_over : (p : ℕ) (l : List ℕ) → Ok (step_over F (cursor p) l) ≡ moved_step p (Ok (step_over F (cursor 0) l))
   moved_over p [] = rw (add-zero p)
   moved_over p (u ∷ us) =
       let e : p + (span_of (item_of F p (first_of F u us))).length ≡ p + (0 + (span_of (item_of F 0 (first_of F u us))).length) =
@@ -93,7 +94,7 @@ module _ (F : Form) where
     steps_over :
         (n p : ℕ) → p ≤ length s → length s - p < suc n → (l : List ℕ) → drop p s ≡ l
         → ((d : ℕ) → d ≤ length s → length s - d < n → steps_from F s n (cursor d) ≡ items_from F d (sequences F (drop d s)))
-        → or_end (step_over F (cursor p) l) (λ i d. i ∷ steps_from F s n d) ≡ items_from F p (sequences F l)
+        → or_end (Ok (step_over F (cursor p) l)) (λ i d. i ∷ steps_from F s n d) ≡ items_from F p (sequences F l)
     steps_over n p h k [] e f = refl
     steps_over n p h k (u ∷ us) e f =
         let z = size (first_of F u us) in
@@ -109,7 +110,7 @@ module _ (F : Form) where
     steps_items : (n p : ℕ) → p ≤ length s → length s - p < n → steps_from F s n (cursor p) ≡ items_from F p (sequences F (drop p s))
     steps_items zero p h k = absurd (omega arith)
     steps_items (suc n) p h k =
-        ap (λ (t : Step). or_end t (λ i d. i ∷ steps_from F s n d)) (step_over_lem F s (cursor p) w h)
+        ap (λ (t : Result Step Refusal). or_end t (λ i d. i ∷ steps_from F s n d)) (step_over_lem F s (cursor p) w h)
         ∙ steps_over n p h k (drop p s) refl (λ d a b. steps_items n d a b)
 
     pub steps_are_items : steps_from F s (suc (length s)) (cursor 0) ≡ items F s

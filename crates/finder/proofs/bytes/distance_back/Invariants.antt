@@ -1,9 +1,8 @@
+use Prim.Native.Nat.{◌-◌}
+use lib.ListN.{length}
 use Rattle.tables.specs.ByteForms.{byte_form}
 use Rattle.finder.proofs.Seeking.{Seeking}
 use Rattle.finder.proofs.bytes.distance_back.Given as goal
 
 abbrev pub invariant-loop-at : goal.invariant-loop-at
-invariant-loop-at l = Seeking (byte_form l.form) l.near l.passed l.at
-
-abbrev pub decreases-loop-at : goal.decreases-loop-at
-decreases-loop-at l = l.at
+invariant-loop-at l = Seeking (byte_form l.form) l.near (length l.near - l.at) l.at

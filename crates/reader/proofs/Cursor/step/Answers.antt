@@ -1,0 +1,10 @@
+use native.Mathlib.Omega.{arith}
+use Rattle.reader.proofs.Steps.{item-within}
+use Rattle.reader.proofs.Cursor.step.Goals as goal
+
+pub past-requires : goal.past-requires
+past-requires g c =
+    let f = g.F.SourceForm in
+    let s = c.args.text.now in
+    let n = g.met.F.SourceForm.counted s in
+    item-within f.form (f.units s) c.args.self (omega (arith, n)) (omega (arith, n)) c.item_at.result c.item_at.ensures
