@@ -8,8 +8,6 @@ use borrow.Author.Tests.{le-ltb, lt-ltb}
 use lib.ListN.{length, get_or, take, drop, drop_of_length-le}
 use lib.Seq.{take_at, drop_at, drop-cons}
 use Rattle.types.specs.declared.Fault.TheVariants.{BufferTooShort}
-use Rattle.types.specs.declared.Conversion.{Conversion}
-use Rattle.types.specs.declared.Conversion.TheVariants.{Units}
 use Rattle.forms.specs.Fault.{refusal}
 use Rattle.forms.specs.Form.{size, Form, first_of, Content, character, mark, content, span, with_span, items, encode, encode_all, OccursAt}
 use Rattle.forms.specs.Conversion.{Outcome, converted, refused, outcome, in_room, strict, answer_of, cells_of, Converts}
@@ -32,6 +30,8 @@ use Rattle.acceptance.proofs.Marking.{marks_of, mark_of}
 use Rattle.acceptance.proofs.Each.{Known}
 use Rattle.acceptance.proofs.Standing.{encoding_is, stands, reads_there}
 use Rattle.acceptance.proofs.Outcomes.{no_fault, behind, number_of_lem, exactly}
+use Rattle.std.specs.Prelude.{Result, Ok}
+use Rattle.types.specs.declared.Refusal.{Refusal}
 
 -- the promise of the call in Rattle behind that of an export
 pub in_rattle : {F G : Form} {s d : List ℕ} {r : JkConversion} {o : List ℕ} → ConvertsInC F G s d r o → Converts F G s d (answer_of (strict F G s (length d))) o
@@ -82,10 +82,10 @@ module _ (F G : Form) (most : ℕ → ℕ) (pair : Pair F G most) (known : Known
         ((y.0, y.1, rw y.2 at z.2), z.3)
 
     -- the call in Rattle behind the numbers of a result
-    converts : r.fault ≡ 0 → Converts F G s d (Units r.units) o
+    converts : r.fault ≡ 0 → Converts F G s d (Ok r.units) o
     converts h =
         let u = no_fault x r c.answer h in
-        subst (λ (y : Conversion). Converts F G s d y o) (ap answer_of u.1 ∙ ap Units (sym u.2)) (in_rattle c)
+        subst (λ (y : Result ℕ Refusal). Converts F G s d y o) (ap answer_of u.1 ∙ ap Ok (sym u.2)) (in_rattle c)
 
     back :
         r.fault ≡ 0 → r.units ≤ 65536
@@ -93,7 +93,7 @@ module _ (F G : Form) (most : ℕ → ℕ) (pair : Pair F G most) (known : Known
         → (q.fault ≡ 0) × (q.units ≡ length s) × (p ≡ s ++ drop (length s) b)
     back h k b q p e l =
         let z = pair.back s d r.units o (converts h) k b (answer_of (strict G F (take r.units o) (length b))) p (in_rattle e) l in
-        let w : q ≡ conversion_answer (Units (length s)) = e.answer ∙ ap conversion_answer z.0 in
+        let w : q ≡ conversion_answer (Ok (length s)) = e.answer ∙ ap conversion_answer z.0 in
         (ap (λ (y : JkConversion). y.fault) w, ap (λ (y : JkConversion). y.units) w, z.1)
 
     pub conversion : Converted F G s d r o
@@ -133,8 +133,8 @@ at_most F G most pair =
       written =
           λ s d r o c h.
           let u = no_fault (strict F G s (length d)) r c.answer h in
-          pair.room.written s d r.units o (subst (λ (y : Conversion). Converts F G s d y o) (ap answer_of u.1 ∙ ap Units (sym u.2)) (in_rattle c));
-      measured = λ s r m h. let u = no_fault (outcome F G s) r m.answer h in pair.room.measured s r.units (ap answer_of u.1 ∙ ap Units (sym u.2));
+          pair.room.written s d r.units o (subst (λ (y : Result ℕ Refusal). Converts F G s d y o) (ap answer_of u.1 ∙ ap Ok (sym u.2)) (in_rattle c));
+      measured = λ s r m h. let u = no_fault (outcome F G s) r m.answer h in pair.room.measured s r.units (ap answer_of u.1 ∙ ap Ok (sym u.2));
     }
 
 pub room_suffices : Room
@@ -157,8 +157,8 @@ room_suffices =
 -- reading at a place
 module _ (F : Form) (known : Known F) (s : List ℕ) (q : ℕ) (r : JkItem) (e : r ≡ item_answer (step_at F s (cursor q))) (w : length s ≤ 65536) where
   -- what is shown there
-  pub shows : q ≤ length s → (l : List ℕ) → drop q s ≡ l → r ≡ item_answer (step_over F (cursor q) l)
-  shows h l d = e ∙ ap item_answer (step_over_lem F s (cursor q) w h ∙ ap (step_over F (cursor q)) d)
+  pub shows : q ≤ length s → (l : List ℕ) → drop q s ≡ l → r ≡ item_answer (Ok (step_over F (cursor q) l))
+  shows h l d = e ∙ ap item_answer (step_over_lem F s (cursor q) w h ∙ ap (λ (x : List ℕ). Ok (step_over F (cursor q) x)) d)
 
   module _ (u : ℕ) (us : List ℕ) (d : drop q s ≡ u ∷ us) where
     within : q ≤ length s

@@ -10,8 +10,6 @@ use lib.ListN.{length, get_or, take, drop, drop_of_length-le}
 use lib.Seq.{drop-cons}
 use Rattle.types.specs.declared.Item.{Item}
 use Rattle.types.specs.declared.Item.TheVariants.{Character, Mark}
-use Rattle.types.specs.declared.Found.{Found}
-use Rattle.types.specs.declared.Found.TheVariants.{Covered, Refused}
 use Rattle.forms.specs.Fault.{limit}
 use Rattle.forms.specs.Form.{Form, span_of, items}
 use Rattle.forms.specs.Finder.{covering, item_covering}
@@ -23,6 +21,8 @@ use Rattle.c_answers.specs.Answer.{jk_item, shown_item, item_answer, found_answe
 use Rattle.acceptance.specs.Places.{CoveredBy, AgreeNear, AgreeAhead, ItemFound, Longest}
 use Rattle.acceptance.proofs.Each.{Known}
 use Rattle.acceptance.proofs.Condition2.{shows}
+use Rattle.std.specs.Prelude.{Result, Ok, Err}
+use Rattle.types.specs.declared.Refusal.{Refusal}
 
 -- the numbers of an item
 shown-offset : (i : Item) → (shown_item i).offset ≡ (span_of i).offset
@@ -115,7 +115,7 @@ module _ (F : Form) (known : Known F) where
     pub shown : r ≡ shown_item item
     pub short : length s ≤ limit
 
-  not-over : (s : List ℕ) (q : ℕ) (i : Item) → item_covering F s q ≡ Covered i → length s ≤ limit
+  not-over : (s : List ℕ) (q : ℕ) (i : Item) → item_covering F s q ≡ Ok i → length s ≤ limit
   not-over s q i e = go (dec_lt limit (length s))
     where
       go : Dec (limit < length s) → length s ≤ limit
@@ -125,9 +125,9 @@ module _ (F : Form) (known : Known F) where
   behind : (s : List ℕ) (q : ℕ) (r : JkItem) → r ≡ found_answer (item_covering F s q) → r.kind ≢ 3 → Behind s q r
   behind s q r e n = go (item_covering F s q) refl
     where
-      go : (x : Found) → item_covering F s q ≡ x → Behind s q r
-      go (Covered i) d = record { item = i; named = known.finds.answer s q i d; shown = e ∙ ap found_answer d; short = not-over s q i d }
-      go (Refused z) d = absurd (n (ap (λ (b : JkItem). b.kind) (e ∙ ap found_answer d)))
+      go : (x : Result Item Refusal) → item_covering F s q ≡ x → Behind s q r
+      go (Ok i) d = record { item = i; named = known.finds.answer s q i d; shown = e ∙ ap found_answer d; short = not-over s q i d }
+      go (Err z) d = absurd (n (ap (λ (b : JkItem). b.kind) (e ∙ ap found_answer d)))
 
   module _ (s : List ℕ) (q : ℕ) (r : JkItem) (e : r ≡ found_answer (item_covering F s q)) (n : r.kind ≢ 3) where
     w : Behind s q r

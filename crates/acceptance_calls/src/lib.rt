@@ -1,6 +1,7 @@
 // The contracts that `acceptance` starts from are those of the calls: each export, and each call of the readers, by its name, with the
 // promise that the acceptance paper reads. Only the contract of a call is seen here, so that one that says less, or asks something of its
-// caller, is refused. (What an export promises is proved from the contract of the call behind it.)
+// caller, is refused. (What an export promises is proved from the contract of the call behind it.) There is a function for each form and
+// pair of forms, as for C, since each export is held by its own name.
 #![tactic(auto)]
 
 ghost use Rattle.std.specs.Prelude.{◌≡◌};
@@ -11,24 +12,25 @@ ghost use Rattle.c_answers.specs.Answer.{item_answer, found_answer};
 ghost use Rattle.c_answers.specs.Promises.{ConvertsInC, MeasuresInC, DecodesLossyInC};
 
 use c_answers::{JkConversion, JkDecoding, JkItem};
-use reader::{Cursor, Step};
+use reader::{Cursor, FssUtf, Reader, Step, Ucs4, Utf16, UtfEbcdic};
+use types::Refusal;
 
 pub fn fss_utf_longest() -> usize
     ensures { result ≡ 6 }
 {
-    reader::FssUtf::longest()
+    FssUtf::longest()
 }
 
 pub fn fss_utf_reader() -> Cursor
     ensures { result ≡ cursor 0 }
 {
-    reader::FssUtf::reader()
+    FssUtf::reader()
 }
 
-pub fn fss_utf_step(at: Cursor, text: &[u8]) -> Step
+pub fn fss_utf_step(at: Cursor, text: &[u8]) -> Result<Step, Refusal>
     ensures { ReadsItem fss_utf text.now at result }
 {
-    at.step_fss_utf(text)
+    at.step::<FssUtf>(text)
 }
 
 pub fn fss_utf_item_at(text: &[u8], offset: usize) -> JkItem
@@ -88,19 +90,19 @@ pub fn fss_utf_to_ucs4_length(src: &[u8]) -> JkConversion
 pub fn utf_ebcdic_longest() -> usize
     ensures { result ≡ 7 }
 {
-    reader::UtfEbcdic::longest()
+    UtfEbcdic::longest()
 }
 
 pub fn utf_ebcdic_reader() -> Cursor
     ensures { result ≡ cursor 0 }
 {
-    reader::UtfEbcdic::reader()
+    UtfEbcdic::reader()
 }
 
-pub fn utf_ebcdic_step(at: Cursor, text: &[u8]) -> Step
+pub fn utf_ebcdic_step(at: Cursor, text: &[u8]) -> Result<Step, Refusal>
     ensures { ReadsItem utf_ebcdic text.now at result }
 {
-    at.step_utf_ebcdic(text)
+    at.step::<UtfEbcdic>(text)
 }
 
 pub fn utf_ebcdic_item_at(text: &[u8], offset: usize) -> JkItem
@@ -160,19 +162,19 @@ pub fn utf_ebcdic_to_ucs4_length(src: &[u8]) -> JkConversion
 pub fn utf16_longest() -> usize
     ensures { result ≡ 2 }
 {
-    reader::Utf16::longest()
+    Utf16::longest()
 }
 
 pub fn utf16_reader() -> Cursor
     ensures { result ≡ cursor 0 }
 {
-    reader::Utf16::reader()
+    Utf16::reader()
 }
 
-pub fn utf16_step(at: Cursor, text: &[u16]) -> Step
+pub fn utf16_step(at: Cursor, text: &[u16]) -> Result<Step, Refusal>
     ensures { ReadsItem utf16 text.now at result }
 {
-    at.step_utf16(text)
+    at.step::<Utf16>(text)
 }
 
 pub fn utf16_item_at(text: &[u16], offset: usize) -> JkItem
@@ -232,19 +234,19 @@ pub fn utf16_to_ucs4_length(src: &[u16]) -> JkConversion
 pub fn ucs4_longest() -> usize
     ensures { result ≡ 1 }
 {
-    reader::Ucs4::longest()
+    Ucs4::longest()
 }
 
 pub fn ucs4_reader() -> Cursor
     ensures { result ≡ cursor 0 }
 {
-    reader::Ucs4::reader()
+    Ucs4::reader()
 }
 
-pub fn ucs4_step(at: Cursor, text: &[u32]) -> Step
+pub fn ucs4_step(at: Cursor, text: &[u32]) -> Result<Step, Refusal>
     ensures { ReadsItem ucs4 text.now at result }
 {
-    at.step_ucs4(text)
+    at.step::<Ucs4>(text)
 }
 
 pub fn ucs4_item_at(text: &[u32], offset: usize) -> JkItem

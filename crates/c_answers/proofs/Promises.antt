@@ -2,15 +2,16 @@
 use Prim.Native.Nat.{ℕ}
 use mathlib.Core.Path.{◌≡◌, sym, ap, ◌∙◌}
 use mathlib.Core.List.{List}
-use Rattle.types.specs.declared.Conversion.{Conversion}
 use Rattle.forms.specs.Form.{Form}
 use Rattle.forms.specs.Conversion.{Measures, Converts}
-use Rattle.types.specs.declared.Decoding.{Decoding}
 use Rattle.demand3.specs.Demand3.{DecodesLossy}
 use Rattle.c_answers.specs.declared.JkConversion.{JkConversion}
 use Rattle.c_answers.specs.declared.JkDecoding.{JkDecoding}
 use Rattle.c_answers.specs.Answer.{conversion_answer, decoding_answer}
 use Rattle.c_answers.specs.Promises.{MeasuresInC, ConvertsInC, DecodesLossyInC}
+use Rattle.std.specs.Prelude.{Result}
+use Rattle.types.specs.declared.Refusal.{Refusal}
+use Rattle.types.specs.declared.Counts.{Counts}
 
 -- each promise settles the answer, and every cell of the buffers
 pub measured_settled : {F G : Form} {s : List ℕ} {q r : JkConversion} → MeasuresInC F G s q → MeasuresInC F G s r → q ≡ r
@@ -30,13 +31,13 @@ decoded_settled {q = q} {r = r} a b = (
 )
 
 -- what the calls behind the exports promise is what the exports do
-pub measures_in_c : {F G : Form} {s : List ℕ} {a : Conversion} {r : JkConversion} → r ≡ conversion_answer a → Measures F G s a → MeasuresInC F G s r
+pub measures_in_c : {F G : Form} {s : List ℕ} {a : Result ℕ Refusal} {r : JkConversion} → r ≡ conversion_answer a → Measures F G s a → MeasuresInC F G s r
 measures_in_c e m = record { answer = e ∙ ap conversion_answer m.answer }
 
 pub converts_in_c :
-    {F G : Form} {s d : List ℕ} {a : Conversion} {r : JkConversion} {o : List ℕ} → r ≡ conversion_answer a → Converts F G s d a o → ConvertsInC F G s d r o
+    {F G : Form} {s d : List ℕ} {a : Result ℕ Refusal} {r : JkConversion} {o : List ℕ} → r ≡ conversion_answer a → Converts F G s d a o → ConvertsInC F G s d r o
 converts_in_c e c = record { answer = e ∙ ap conversion_answer c.answer; cells = c.cells }
 
 pub decodes_in_c :
-    {F : Form} {s d e : List ℕ} {a : Decoding} {r : JkDecoding} {o p : List ℕ} → r ≡ decoding_answer a → DecodesLossy F s d e a o p → DecodesLossyInC F s d e r o p
+    {F : Form} {s d e : List ℕ} {a : Result Counts Refusal} {r : JkDecoding} {o p : List ℕ} → r ≡ decoding_answer a → DecodesLossy F s d e a o p → DecodesLossyInC F s d e r o p
 decodes_in_c {a = a} {r = r} e c = record { decoding = a; promised = c; numbers = e }

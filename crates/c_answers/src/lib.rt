@@ -1,11 +1,12 @@
-// The answers as C sees them: structs of numbers. `specs/Answer` says which number stands for which case.
+// The answers as C sees them: structs of numbers, for kinds and faults too, since C has no enums that hold values. `specs/Answer` says
+// which number stands for which case.
 #![tactic(auto)]
 
 ghost use Rattle.std.specs.Prelude.{◌≡◌};
 ghost use Rattle.c_answers.specs.Answer.{item_answer, found_answer, shown_item, refused_item, conversion_answer, decoding_answer};
 
 use reader::Step;
-use types::{Conversion, Decoding, Found, Item, Refusal};
+use types::{Counts, Item, Refusal};
 
 #[repr(C)]
 #[derive(Clone, Copy)]
@@ -17,28 +18,32 @@ pub struct JkItem {
     pub length: u64,
 }
 
-pub fn item_answer(step: Step) -> JkItem
-    ensures { result ≡ item_answer step }
-{
-    match step {
-        Step::End(at) => JkItem {
-            kind: 0,
-            fault: 0,
-            value: 0,
-            offset: at.offset as u64,
-            length: 0,
-        },
-        Step::Next(item, _) => shown_item(item),
-        Step::Refused(refusal) => refused_item(refusal),
+impl From<Result<Step, Refusal>> for JkItem {
+    ghost from_gives = { λ step r. r ≡ item_answer step };
+
+    fn from(step: Result<Step, Refusal>) -> JkItem {
+        match step {
+            Ok(Step::End(at)) => JkItem {
+                kind: 0,
+                fault: 0,
+                value: 0,
+                offset: at.offset as u64,
+                length: 0,
+            },
+            Ok(Step::Next(item, _)) => shown_item(item),
+            Err(refusal) => refused_item(refusal),
+        }
     }
 }
 
-pub fn found_answer(found: Found) -> JkItem
-    ensures { result ≡ found_answer found }
-{
-    match found {
-        Found::Covered(item) => shown_item(item),
-        Found::Refused(refusal) => refused_item(refusal),
+impl From<Result<Item, Refusal>> for JkItem {
+    ghost from_gives = { λ found r. r ≡ found_answer found };
+
+    fn from(found: Result<Item, Refusal>) -> JkItem {
+        match found {
+            Ok(item) => shown_item(item),
+            Err(refusal) => refused_item(refusal),
+        }
     }
 }
 
@@ -66,10 +71,9 @@ fn shown_item(item: Item) -> JkItem
 fn refused_item(refusal: Refusal) -> JkItem
     ensures { result ≡ refused_item refusal }
 {
-    let fault = refusal.fault;
     JkItem {
         kind: 3,
-        fault: answers::number(fault),
+        fault: answers::number(refusal.fault),
         value: 0,
         offset: refusal.offset as u64,
         length: 0,
@@ -84,27 +88,22 @@ pub struct JkConversion {
     pub units: u64,
 }
 
-pub fn conversion_answer(conversion: Conversion) -> JkConversion
-    ensures { result ≡ conversion_answer conversion }
-{
-    match conversion {
-        Conversion::Units(units) => JkConversion {
-            fault: 0,
-            offset: 0,
-            units: units as u64,
-        },
-        Conversion::Refused(refusal) => refused_conversion(refusal),
-    }
-}
+impl From<Result<usize, Refusal>> for JkConversion {
+    ghost from_gives = { λ conversion r. r ≡ conversion_answer conversion };
 
-fn refused_conversion(refusal: Refusal) -> JkConversion
-    ensures { result ≡ conversion_answer (Conversion.Refused refusal) }
-{
-    let fault = refusal.fault;
-    JkConversion {
-        fault: answers::number(fault),
-        offset: refusal.offset as u64,
-        units: 0,
+    fn from(conversion: Result<usize, Refusal>) -> JkConversion {
+        match conversion {
+            Ok(units) => JkConversion {
+                fault: 0,
+                offset: 0,
+                units: units as u64,
+            },
+            Err(refusal) => JkConversion {
+                fault: answers::number(refusal.fault),
+                offset: refusal.offset as u64,
+                units: 0,
+            },
+        }
     }
 }
 
@@ -117,28 +116,23 @@ pub struct JkDecoding {
     pub marks: u64,
 }
 
-pub fn decoding_answer(decoding: Decoding) -> JkDecoding
-    ensures { result ≡ decoding_answer decoding }
-{
-    match decoding {
-        Decoding::Decoded(counts) => JkDecoding {
-            fault: 0,
-            offset: 0,
-            items: counts.items as u64,
-            marks: counts.marks as u64,
-        },
-        Decoding::Refused(refusal) => refused_decoding(refusal),
-    }
-}
+impl From<Result<Counts, Refusal>> for JkDecoding {
+    ghost from_gives = { λ decoding r. r ≡ decoding_answer decoding };
 
-fn refused_decoding(refusal: Refusal) -> JkDecoding
-    ensures { result ≡ decoding_answer (Decoding.Refused refusal) }
-{
-    let fault = refusal.fault;
-    JkDecoding {
-        fault: answers::number(fault),
-        offset: refusal.offset as u64,
-        items: 0,
-        marks: 0,
+    fn from(decoding: Result<Counts, Refusal>) -> JkDecoding {
+        match decoding {
+            Ok(counts) => JkDecoding {
+                fault: 0,
+                offset: 0,
+                items: counts.items as u64,
+                marks: counts.marks as u64,
+            },
+            Err(refusal) => JkDecoding {
+                fault: answers::number(refusal.fault),
+                offset: refusal.offset as u64,
+                items: 0,
+                marks: 0,
+            },
+        }
     }
 }

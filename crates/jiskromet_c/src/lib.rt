@@ -1,5 +1,6 @@
 // What a gateway links: the exports for C, under the names that `include/jiskromet.h` declares. Each calls the function of `jiskromet` of
 // its name, and promises what that one promises. Here: the item at an offset; `conversions`, `decodings` and `finders` have the others.
+// There is one for each form and pair of forms: C has no type parameters.
 #![tactic(auto)]
 
 pub mod conversions;
