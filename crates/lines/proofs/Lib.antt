@@ -1,4 +1,3 @@
-pub mod Appending
 pub mod Digits
 pub mod Lines
 pub mod Turns

@@ -47,11 +47,9 @@ listed_begin s written₀ out₀ =
 
 -- the buffer when the header was put in
 pub header_put :
-    (d out₀ text : List ℕ) (written₀ : ℕ) → text ≡ header → written₀ ≡ 0 + length text → out₀ ≡ with_units d 0 text → 18 ≤ length d
+    (d out₀ : List ℕ) (written₀ : ℕ) → written₀ ≡ 0 + length header → out₀ ≡ with_units d 0 header → 18 ≤ length d
     → Holds d header written₀ out₀ × (length out₀ ≡ length d)
-header_put d out₀ text written₀ t q w h =
-    let e : out₀ ≡ with_units d 0 header = w ∙ ap (with_units d 0) t in
-    (holds_first d header out₀ written₀ (q ∙ ap (λ (x : List ℕ). 0 + length x) t) e, length_with d header out₀ 0 e (omega arith))
+header_put d out₀ written₀ q w h = (holds_first d header out₀ written₀ q w, length_with d header out₀ 0 w (omega arith))
 
 pub mark-most : (i : Item) → mark_count i ≤ 1
 mark-most (Character v p) = omega arith

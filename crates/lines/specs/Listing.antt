@@ -1,6 +1,7 @@
 -- What the listing program prints: document 01, the end of "Points for acceptance trial".
 use Rattle.std.specs.Prelude.{ℕ, List, [], ◌∷◌, ◌++◌, length, take}
 use Rattle.types.specs.declared.Item.{Item}
+use Rattle.types.specs.declared.Span.{Span}
 use Rattle.types.specs.declared.Item.TheVariants.{Character, Mark}
 use Rattle.forms.specs.Fault.{number_of}
 use Rattle.forms.specs.Form.{span_of, items}
@@ -16,6 +17,10 @@ header = 0x53 ∷ 0x54 ∷ 0x41 ∷ 0x52 ∷ 0x54 ∷ 0x20 ∷ 0x4C ∷ 0x45 ∷
 abbrev pub shown_read : Item → List ℕ
 shown_read (Character v p) = 0x55 ∷ 0x2B ∷ (hex 8 v ++ (0x0A ∷ []))
 shown_read (Mark f p) = 0x66 ∷ 0x61 ∷ 0x75 ∷ 0x6C ∷ 0x74 ∷ 0x20 ∷ (decimal (number_of f) ++ (0x0A ∷ []))
+
+-- start and length with a space behind each
+abbrev pub placed : Span → List ℕ
+placed s = decimal s.offset ++ (0x20 ∷ (decimal s.length ++ (0x20 ∷ [])))
 
 -- start, length and what was read, with a space between
 abbrev pub line : Item → List ℕ

@@ -7,12 +7,12 @@ ghost use Rattle.std.specs.Prelude.{◌≡◌, ◌+◌, ◌<◌, ◌≤◌, leng
 ghost use Rattle.forms.specs.Form.{span_of, items};
 ghost use Rattle.forms.specs.Forms.{fss_utf};
 ghost use Rattle.forms.specs.Buffer.{with_units, Holds};
-ghost use Rattle.lines.specs.Line.{text_of};
-ghost use Rattle.lines.specs.Listing.{header, line, total, listing_of, listing};
+ghost use Rattle.arrayvec.specs.ArrayVec.{array_vec_len};
+ghost use Rattle.lines.specs.Listing.{placed, line, total, listing_of, listing};
 
+use items::SourceForm;
 use line::Line;
-use tables::ByteForm;
-use types::Item;
+use types::{FssUtf, Item, Span};
 
 // The listing of the first 4,096 bytes of a text. A buffer of 73,769 bytes holds the longest: a header of 18, 4,096 lines of at most 18
 // and a total of at most 23.
@@ -29,68 +29,79 @@ fn list(text: &[u8], out: &mut [u8]) -> usize
     requires { (length text.now ≤ 4096) × (73769 ≤ length out.old) }
     ensures { Holds out.old (listing_of (items fss_utf text.now)) result out.new }
 {
-    let mut written = put(out, 0, header_line());
+    let mut written = put(out, 0, b"START LENGTH READ\n");
     let mut at: usize = 0;
     let mut count: usize = 0;
     let mut marks: usize = 0;
+    // No `for`: a turn steps by an item, and only finds out how long that is.
     while at < text.len() {
-        let item = items::bytes::item_at(ByteForm::FssUtf, text, at);
+        let item = FssUtf::item_at(text, at);
         let span = answers::span(item);
-        written = put(out, written, item_line(item));
+        written = put(out, written, item_line(item).as_slice());
         count += 1;
         marks += answers::mark_count(item);
         at += span.length;
     }
-    put(out, written, total_line(count, marks))
+    put(out, written, total_line(count, marks).as_slice())
 }
 
-// Puts a line into the buffer from an offset on, and answers the offset behind it.
-fn put(out: &mut [u8], at: usize, added: Line) -> usize
-    requires { (added.length ≤ 32) × (at + added.length ≤ length out.old) }
-    ensures { (result ≡ at + length (text_of added)) × (out.new ≡ with_units out.old at (text_of added)) }
+// Puts a line into the lent buffer from an offset on, and answers the offset behind it: the buffer's rest stays as it was.
+fn put(out: &mut [u8], at: usize, added: &[u8]) -> usize
+    requires { at + length added.now ≤ length out.old }
+    ensures { (result ≡ at + length added.now) × (out.new ≡ with_units out.old at added.now) }
 {
-    let n = added.length;
-    let mut i: usize = 0;
-    while i < n {
-        out[at + i] = added.bytes[i];
-        i += 1;
-    }
-    at + n
+    let end = at + added.len();
+    out[at..end].copy_from_slice(added);
+    end
 }
 
-fn header_line() -> Line
-    ensures { (text_of result ≡ header) × (result.length ≡ 18) }
-{
-    Line::new().push_text(b"START LENGTH READ\n")
-}
-
+// No `Display` of an item: this is how the listing shows it, and nothing else.
 fn item_line(item: Item) -> Line
     requires { ((span_of item).offset < 10000) × ((span_of item).length < 10) }
-    ensures { (text_of result ≡ line item) × (result.length ≤ 18) }
+    ensures text { result.items ≡ line item }
+    ensures len { array_vec_len result ≤ 18 }
 {
-    let span = answers::span(item);
-    let placed = Line::new()
-        .push_decimal(span.offset)
-        .push(b' ')
-        .push_decimal(span.length)
-        .push(b' ');
+    let mut line = placed_line(answers::span(item));
     match item {
-        Item::Character(value, _) => placed.push_text(b"U+").push_hex(8, value).push(b'\n'),
-        Item::Mark(fault, _) => placed
-            .push_text(b"fault ")
-            .push_decimal(answers::number(fault) as usize)
-            .push(b'\n'),
+        Item::Character(value, _) => {
+            line::push_text(&mut line, b"U+");
+            line::push_hex(&mut line, 8, value);
+        }
+        Item::Mark(fault, _) => {
+            line::push_text(&mut line, b"fault ");
+            line::push_decimal(&mut line, answers::number(fault) as usize);
+        }
     }
+    line.push(b'\n');
+    line
 }
 
+// The front of an item's line: where the item starts, and its length.
+#[tactic(auto, using(crate::proofs::Lines::none_yet, crate::proofs::Lines::four_digits, crate::proofs::Lines::one_digit))]
+fn placed_line(span: Span) -> Line
+    requires { (span.offset < 10000) × (span.length < 10) }
+    ensures text { result.items ≡ placed span }
+    ensures len { array_vec_len result ≤ 7 }
+{
+    let mut line = Line::new();
+    line::push_decimal(&mut line, span.offset);
+    line.push(b' ');
+    line::push_decimal(&mut line, span.length);
+    line.push(b' ');
+    line
+}
+
+#[tactic(auto, using(crate::proofs::Lines::none_yet, crate::proofs::Lines::four_digits))]
 fn total_line(count: usize, marks: usize) -> Line
     requires { (count < 10000) × (marks < 10000) }
-    ensures { (text_of result ≡ total count marks) × (result.length ≤ 23) }
+    ensures text { result.items ≡ total count marks }
+    ensures len { array_vec_len result ≤ 23 }
 {
-    Line::new()
-        .push_text(b"items ")
-        .push_decimal(count)
-        .push_text(b" faults ")
-        .push_decimal(marks)
-        .push(b'\n')
+    let mut line = Line::new();
+    line::push_text(&mut line, b"items ");
+    line::push_decimal(&mut line, count);
+    line::push_text(&mut line, b" faults ");
+    line::push_decimal(&mut line, marks);
+    line.push(b'\n');
+    line
 }

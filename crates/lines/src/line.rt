@@ -1,68 +1,41 @@
 // A line that is being made: at most 32 bytes of ASCII.
-ghost use Rattle.std.specs.Prelude.{◌≡◌, [], ◌∷◌, ◌+◌, ◌<◌, ◌≤◌, length};
+ghost use Rattle.std.specs.Prelude.{◌≡◌, ◌++◌, ◌+◌, ◌<◌, ◌≤◌, length};
+ghost use Rattle.arrayvec.specs.ArrayVec.{array_vec_len};
 ghost use Rattle.lines.specs.Numerals.{decimal, hex, hex_digit};
-ghost use Rattle.lines.specs.Line.{Adds, text_of};
 
-#[derive(Drop)]
-pub struct Line {
-    pub bytes: [u8; 32],
-    pub length: usize,
+use arrayvec::ArrayVec;
+use itoa::Buffer;
+
+pub type Line = ArrayVec<u8, 32>;
+
+pub fn push_text(line: &mut Line, text: &[u8])
+    requires { array_vec_len line.old + length text.now ≤ 32 }
+    ensures items { line.new.items ≡ line.old.items ++ text.now }
+    ensures len { array_vec_len line.new ≡ array_vec_len line.old + length text.now }
+{
+    for byte in text {
+        line.push(*byte);
+    }
 }
 
-impl Line {
-    pub fn new() -> Self
-        ensures { (text_of result ≡ []) × (result.length ≡ 0) }
-    {
-        Line {
-            bytes: [0u8; 32],
-            length: 0,
-        }
-    }
+#[tactic(auto, using(crate::proofs::Digits::decimal_written))]
+pub fn push_decimal(line: &mut Line, number: usize)
+    requires { array_vec_len line.old + length (decimal number) ≤ 32 }
+    ensures items { line.new.items ≡ line.old.items ++ decimal number }
+    ensures len { array_vec_len line.new ≡ array_vec_len line.old + length (decimal number) }
+{
+    push_text(line, Buffer::new().format(number).as_bytes());
+}
 
-    pub fn push(self, byte: u8) -> Self
-        requires { self.length < 32 }
-        ensures { Adds self result (byte ∷ []) }
-    {
-        let mut line = self;
-        let at = line.length;
-        line.bytes[at] = byte;
-        line.length = at + 1;
-        line
-    }
-
-    pub fn push_text(self, text: &[u8]) -> Self
-        requires { self.length + length text.now ≤ 32 }
-        ensures { Adds self result text.now }
-    {
-        let mut line = self;
-        let mut i: usize = 0;
-        while i < text.len() {
-            line = line.push(text[i]);
-            i += 1;
-        }
-        line
-    }
-
-    pub fn push_decimal(self, number: usize) -> Self
-        requires { self.length + length (decimal number) ≤ 32 }
-        ensures { Adds self result (decimal number) }
-    {
-        if number < 10 {
-            return self.push(48 + number as u8);
-        }
-        let line = self.push_decimal(number / 10);
-        line.push(48 + (number % 10) as u8)
-    }
-
-    pub fn push_hex(self, count: usize, number: u32) -> Self
-        requires { self.length + count ≤ 32 }
-        ensures { Adds self result (hex count number) }
-    {
-        if count == 0 {
-            return self;
-        }
-        let line = self.push_hex(count - 1, number / 16);
-        line.push(hex_digit((number % 16) as u8))
+// By hand: `itoa` has decimals alone.
+pub fn push_hex(line: &mut Line, count: usize, number: u32)
+    requires { array_vec_len line.old + count ≤ 32 }
+    ensures items { line.new.items ≡ line.old.items ++ hex count number }
+    ensures len { array_vec_len line.new ≡ array_vec_len line.old + count }
+{
+    if count > 0 {
+        push_hex(line, count - 1, number / 16);
+        line.push(hex_digit((number % 16) as u8));
     }
 }
 
@@ -71,7 +44,8 @@ fn hex_digit(digit: u8) -> u8
     ensures { result ≡ hex_digit digit }
 {
     if digit < 10 {
-        return 48 + digit;
+        b'0' + digit
+    } else {
+        b'A' + (digit - 10)
     }
-    55 + digit
 }

@@ -26,6 +26,7 @@ fn read_text<R: Read>(input: &mut R, text: &mut [u8; 4096]) -> io::Result<usize>
     ensures first { IfOk result (λ n. IfSome (R.remaining input.old) (λ bytes. take n text.new ≡ take 4096 bytes)) }
 {
     let mut n: usize = 0;
+    // No `for`: each read says how far it came.
     while n < 4096 {
         let more = input.read(&mut text[n..])?;
         if more == 0 {
