@@ -101,8 +101,8 @@ fn vectors(listing: &str) -> Vec<(&'static str, usize)> {
 /// What a function's constants are for.
 fn use_of(function: &str) -> &'static str {
     match function {
-        "tables::exchange::exchange_table" => "the exchange table",
-        "tables::exchange::inverse_table" => "its inverse",
+        "tables::exchange::ExchangeTable::new" => "the exchange table",
+        "tables::exchange::InverseTable::new" => "its inverse",
         _ if function.starts_with("items::") => "lowest values, for the item reader",
         _ if function.starts_with("measure") => "vectors, for lengths",
         _ if function.starts_with("lossy") || function.ends_with("_decode_lossy") => {
@@ -134,7 +134,7 @@ mod tests {
     #[test]
     fn a_constant_is_counted_once_and_one_without_a_name_too() {
         let by_use = vectors(
-            "Disassembly of section .text.tables::exchange::inverse_table:\n\
+            "Disassembly of section .text.tables::exchange::InverseTable::new:\n\
              \t\t\ta: R_X86_64_PC32\t.LCPI0_0-0x4\n\
              \t\t\t16: R_X86_64_PC32\t.LCPI0_1-0x4\n\
              Disassembly of section .text.measure_runs::utf16::block:\n\
