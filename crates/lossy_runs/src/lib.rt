@@ -24,7 +24,7 @@ pub struct Read {
     pub items: usize,
 }
 
-// A form whose characters are read many at once.
+// A form whose characters are read many at once: three by `blocks::read_on`, UTF-EBCDIC in its own way, so that there is no impl for all.
 pub trait LossyRuns: SourceForm {
     // Characters from an offset on, none where there may be a mark.
     fn read_on(
