@@ -4,6 +4,7 @@ use mathlib.Core.Path.{◌≡◌, refl, sym, ap, ◌∙◌}
 use mathlib.Core.Bool.{Bool, true, cond, ◌&&◌}
 use mathlib.Core.List.{List, [], ◌∷◌}
 use native.Mathlib.Omega.{arith}
+use native.Mathlib.Decide.{ℕ_discrete}
 use lib.Dec.{eqb, leb, ltb}
 use borrow.Author.Tests.{eqb-true, ne_eqb, le-leb, lt-ltb}
 use lib.ListN.{length, get_or}
@@ -93,6 +94,9 @@ decoded_lead (suc m) h = let e : suc m + 1 ≡ suc (suc m) = omega arith in ap d
 abbrev flag_code : ℕ → ℕ
 flag_code n = cond (eqb n 0) 2 (cond (eqb n 9) 0 (n + 1))
 
+abbrev pub flagged : ℕ → ByteRole
+flagged n = cond (eqb n 9) Trailing (Lead n)
+
 flag_role : (x : ℕ) → x < 0x100 → flag_code (flag_of (ebcdic_of x)) ≡ coded (role_of (byte_layout 5 7) x)
 flag_role x h = eqb-true _ _ (below 0x100 (λ y. eqb (flag_code (flag_of (ebcdic_of y))) (coded (role_of (byte_layout 5 7) y))) refl x h)
 
@@ -109,8 +113,16 @@ module _ (x n : ℕ) (h : x < 0x100) (f : Flagged x n) where
   pub flag_nine : n ≡ 9 → Trailing ≡ role_seen (role_of (byte_layout 5 7) x)
   flag_nine e = rw e at flag_seen
 
-  pub flag_other : (n ≡ 0 → ⊥) → (n ≡ 9 → ⊥) → Lead n ≡ role_seen (role_of (byte_layout 5 7) x)
-  flag_other z t = sym (decoded_lead n (omega arith)) ∙ (rw (ne_eqb n 0 z, ne_eqb n 9 t) at flag_seen)
+  pub flag_lead : (n ≡ 0 → ⊥) → (n ≡ 9 → ⊥) → Lead n ≡ role_seen (role_of (byte_layout 5 7) x)
+  flag_lead z t = sym (decoded_lead n (omega arith)) ∙ (rw (ne_eqb n 0 z, ne_eqb n 9 t) at flag_seen)
+
+  -- every flag but 0 tells the role by itself
+  pub flag_other : (n ≡ 0 → ⊥) → flagged n ≡ role_seen (role_of (byte_layout 5 7) x)
+  flag_other z = go (ℕ_discrete n 9)
+    where
+      go : Dec (n ≡ 9) → flagged n ≡ role_seen (role_of (byte_layout 5 7) x)
+      go (yes e) = ap flagged e ∙ flag_nine e
+      go (no t) = rw (ne_eqb n 9 t) (flag_lead z t)
 
 -- a form's byte has the role of the layout's byte that it stands for
 pub plain_role : (f : ByteForm) (b : ℕ) → (byte_form f).role b ≡ role_of (layout_of f) (plain_of f b)
