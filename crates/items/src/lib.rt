@@ -1,8 +1,8 @@
 // The item at an offset inside a text: `SourceForm` has the promise, and `bytes`, `utf16` and `ucs4` keep it for the four forms. It asks that
-// the offset lies inside: the calls of `reader` ask nothing.
+// the offset lies inside: the calls of `reader` ask nothing. `bytes::item_at` takes the byte form as a value.
 #![tactic(auto)]
 
-mod bytes;
+pub mod bytes;
 mod form;
 mod ucs4;
 mod utf16;
