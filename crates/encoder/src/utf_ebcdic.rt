@@ -17,7 +17,17 @@ fn unit(table: &InverseTable, byte: u32) -> u8
     table.get(byte as u8)
 }
 
-// What `crate::bytes::write` does for UTF-EBCDIC.
+// What `crate::bytes::write` does for UTF-EBCDIC, in code of its own for this form. By a call that is not inlined, so that a loop that writes
+// short characters has no part of it, and saves no registers for it.
+#[inline(never)]
+fn longer(value: u32, dst: &mut [u8], at: usize) -> usize
+    requires { (encode utf_ebcdic value ≢ []) × (at + length (encode utf_ebcdic value) ≤ length dst.old) }
+    ensures { (result ≡ at + length (encode utf_ebcdic value)) × (dst.new ≡ with_units dst.old at (encode utf_ebcdic value)) }
+{
+    crate::bytes::write(ByteForm::UtfEbcdic, value, dst, at)
+}
+
+// The same, by straight code where the value has at most four bytes.
 pub fn write(table: &InverseTable, value: u32, dst: &mut [u8], at: usize) -> usize
     requires { (encode utf_ebcdic value ≢ []) × (at + length (encode utf_ebcdic value) ≤ length dst.old) }
     ensures { (result ≡ at + length (encode utf_ebcdic value)) × (dst.new ≡ with_units dst.old at (encode utf_ebcdic value)) }
@@ -44,5 +54,5 @@ pub fn write(table: &InverseTable, value: u32, dst: &mut [u8], at: usize) -> usi
         dst[at + 3] = unit(table, 0xA0 + value % 32);
         return at + 4;
     }
-    crate::bytes::write(ByteForm::UtfEbcdic, value, dst, at)
+    longer(value, dst, at)
 }
