@@ -1,4 +1,5 @@
-// The form that a text is converted to as a type, for the calls that are the same for each: its code units, and how a value is written.
+// The form that a text is converted to as a type, for the calls that are the same for each: its code units, and how a value is written. It says
+// form and units as `items::SourceForm` does: what is written is asked for no item, so that `encoder` stands on no reader of items.
 ghost use Rattle.std.specs.Prelude.{◌≡◌, ◌≢◌, ℕ, List, [], ◌+◌, ◌≤◌, length, refl};
 ghost use Rattle.forms.specs.Form.{Form, encode};
 ghost use Rattle.forms.specs.Forms.{fss_utf, utf_ebcdic, utf16, ucs4};

@@ -18,7 +18,7 @@ pub struct Cursor {
     pub offset: usize,
 }
 
-// What a step gives: the item with the next cursor; or, at the end, the cursor as it is.
+// What a step gives: the item with the next cursor; or, at the end, the cursor as it is. No Option, since the end has its cursor too.
 #[derive(Clone, Copy, PartialEq, Eq, Debug)]
 pub enum Step {
     Next(Item, Cursor),
