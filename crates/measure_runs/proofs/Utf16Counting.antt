@@ -15,7 +15,7 @@ use Rattle.forms.specs.Forms.{is_surrogate, is_non_character, utf16, fss_utf, ut
 use Rattle.laws.proofs.Rows.{within_in}
 use Rattle.laws.proofs.Carried.{not_surrogate}
 use Rattle.laws.proofs.Narrowed.{as_before, strict_same}
-use Rattle.laws.proofs.Runs.{Counted, sum, sum_zero, sum_more, Next, between}
+use Rattle.laws.proofs.Runs.{Counted, counted_join, sum, sum_zero, sum_more, Next, between}
 use Rattle.laws.proofs.Blocks.{AtMost, NoNonCharacters, no_non_characters}
 use Rattle.laws.proofs.Values.{sum_ones}
 use Rattle.tables.specs.declared.ByteForm.TheVariants as Byte
@@ -262,3 +262,11 @@ counted_plain t s at k m b units inside most e h =
       where
         next : (j : ℕ) → j + 1 < k → is_low (get_or s (at + j + 1) 0) ≡ false
         next j y = let q : at + (j + 1) ≡ at + j + 1 = omega arith in below_not-low (get_or s (at + j + 1) 0) (rw q at (below (j + 1) y))
+
+-- what is counted up to the unit n, and what from there on
+pub counted_on : {F G : Form} {s : List ℕ} {at n l u w : ℕ} → at ≤ n → Counted F G s at (n - at) u → Counted F G s n l w → Counted F G s at (n + l - at) (u + w)
+counted_on {F} {G} {s} {at} {n} {l} {u} {w} h a b =
+    let e : at + (n - at) ≡ n = omega arith in
+    let f : n + l - at ≡ (n - at) + l = omega arith in
+    let g : Counted F G s (at + (n - at)) l w = rw e b in
+    rw f (counted_join a g)

@@ -2,7 +2,7 @@
 ghost use Rattle.std.specs.Prelude.{IfSome, ℕ, ◌≡◌, ◌+◌, ◌<◌, ◌≤◌, length, get_or};
 ghost use Rattle.forms.specs.Forms.{utf16, strictly};
 ghost use Rattle.encoder.specs.Target.{target_form};
-ghost use Rattle.laws.proofs.Blocks.{NoNonCharacters};
+ghost use Rattle.laws.proofs.Blocks.{AtMost, NoNonCharacters};
 ghost use Rattle.laws.proofs.Runs.{Counted, sum};
 ghost use Rattle.measure_runs.specs.Utf16Units.{bytes_of, ebcdic_of, values_of, plain_of, Whole};
 
@@ -74,17 +74,19 @@ fn whole(target: Target, src: &[u16], at: usize, count: usize) -> Option<usize>
 }
 
 // A block, of which so many neighbours are looked at, unless one is unpaired, or a unit FFFE or FFFF. A high unit at its end is left for the next block.
-fn block(target: Target, src: &[u16], at: usize, count: usize, pairs: usize) -> Option<Run>
-    requires { (0 < count) × (count ≤ 128) × (count ≤ pairs + 1) × (at + count ≤ length src.now) × (at + pairs < length src.now) }
+// Inlined, so that its loops are compiled for blocks of 128 too: compiled for any count alone they take half as long again.
+#[inline(always)]
+fn block(
+    target: Target,
+    src: &[u16],
+    at: usize,
+    count: usize,
+    pairs: usize,
+    most: u16,
+) -> Option<Run>
+    requires { (0 < count) × (count ≤ 128) × (count ≤ pairs + 1) × (at + count ≤ length src.now) × (at + pairs < length src.now) × AtMost src.now at count most }
     ensures { IfSome result (λ run. (count ≤ run.length + 1) × Counted utf16 (strictly (target_form target)) src.now at run.length run.units) }
 {
-    let most = joined(src, at, count);
-    if most < plain(target) {
-        return Some(Run {
-            length: count,
-            units: count,
-        });
-    }
     if low(src[at]) {
         return None;
     }
@@ -109,30 +111,54 @@ fn block(target: Target, src: &[u16], at: usize, count: usize, pairs: usize) -> 
     })
 }
 
-// The blocks from an offset on, up to one with a fault.
+// The blocks from an offset on, up to one with a fault. A block of plain units is counted here and not by `block`, against a bound found once:
+// most texts have few others, and a choice by the target in each block is slow.
 pub fn count(target: Target, src: &[u16], at: usize) -> Run
     requires { (at ≤ length src.now) × (length src.now ≤ 65536) }
     ensures { Counted utf16 (strictly (target_form target)) src.now at result.length result.units }
 {
-    let mut length: usize = 0;
+    let bound = plain(target);
+    let mut next = at;
     let mut units: usize = 0;
     // A block may be a unit shorter than the one before.
-    while 128 < src.len() - at - length {
-        let Some(run) = block(target, src, at + length, 128, 128) else {
-            return Run { length, units };
+    while next + 128 < src.len() {
+        let most = joined(src, next, 128);
+        if most < bound {
+            next += 128;
+            units += 128;
+            continue;
+        }
+        let Some(run) = block(target, src, next, 128, 128, most) else {
+            return Run {
+                length: next - at,
+                units,
+            };
         };
-        length += run.length;
+        next += run.length;
         units += run.units;
     }
-    let rest = src.len() - at - length;
+    let rest = src.len() - next;
     if rest == 0 {
-        return Run { length, units };
+        return Run {
+            length: next - at,
+            units,
+        };
     }
-    let Some(run) = block(target, src, at + length, rest, rest - 1) else {
-        return Run { length, units };
+    let most = joined(src, next, rest);
+    if most < bound {
+        return Run {
+            length: next + rest - at,
+            units: units + rest,
+        };
+    }
+    let Some(run) = block(target, src, next, rest, rest - 1, most) else {
+        return Run {
+            length: next - at,
+            units,
+        };
     };
     Run {
-        length: length + run.length,
+        length: next + run.length - at,
         units: units + run.units,
     }
 }
