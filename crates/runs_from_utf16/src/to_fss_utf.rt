@@ -8,7 +8,9 @@ ghost use Rattle.laws.proofs.Values.{Encodable, Encoded, Room, part};
 
 use types::{FssUtf, Run};
 
-// Character by character, until so many units have passed. Each length has its own way round the loop.
+// Character by character, until so many units have passed. Each length has its own way round the loop. This and `twos` are not inlined: in the
+// conversion, which needs the registers itself, their loops would be compiled to longer code.
+#[inline(never)]
 fn each(src: &[u16], at: usize, count: usize, dst: &mut [u8], written: usize) -> Run
     requires { (at + count ≤ length src.now) × (Convertible utf16 fss_utf src.now at written (length dst.old)) }
     ensures { (Wrote utf16 fss_utf src.now at result.length result.units dst.old written dst.new) × (count ≤ result.length) }
@@ -17,24 +19,24 @@ fn each(src: &[u16], at: usize, count: usize, dst: &mut [u8], written: usize) ->
     let mut end = written;
     // No `for`: a turn steps by a character, and only finds out how many units that is.
     while length < count {
-        let unit = src[at + length];
+        let place = at + length;
+        let unit = src[place];
+        // Counted here: in each way by itself, it would be compiled to vector code with the offset of what is written, which is slower.
+        length += 1;
         if unit < 0x80 {
             end = encoder::fss_utf::one(u32::from(unit), dst, end);
-            length += 1;
             continue;
         }
         if unit < 0x800 {
             end = encoder::fss_utf::two(u32::from(unit), dst, end);
-            length += 1;
             continue;
         }
         if !measure_runs::utf16_blocks::surrogate(unit) {
             end = encoder::fss_utf::three(u32::from(unit), dst, end);
-            length += 1;
             continue;
         }
-        end = encoder::fss_utf::four(crate::decoding::pair(src, at + length), dst, end);
-        length += 2;
+        end = encoder::fss_utf::four(crate::decoding::pair(src, place), dst, end);
+        length += 1;
     }
     Run {
         length,
@@ -53,7 +55,9 @@ fn copy(src: &[u16], at: usize, count: usize, dst: &mut [u8], written: usize)
     }
 }
 
-// Units below 800, each over the byte too many of the one before it: no branch. The last is written exactly.
+// Units below 800, each over the byte too many of the one before it: no branch, and four of them in a turn, which are compiled to straight code.
+// The last is written exactly.
+#[inline(never)]
 fn twos(src: &[u16], at: usize, count: usize, dst: &mut [u8], written: usize) -> usize
     requires { (Encodable fss_utf src.now at count) × (Room fss_utf src.now at count written (length dst.old)) × (AtMost src.now at count 0x7FF) }
     ensures { Encoded fss_utf src.now at count dst.old written result dst.new }
@@ -63,7 +67,13 @@ fn twos(src: &[u16], at: usize, count: usize, dst: &mut [u8], written: usize) ->
     }
     let last = count - 1;
     let mut end = written;
-    for k in 0..last {
+    for turn in 0..last / 4 {
+        for part in 0..4 {
+            let k = 4 * turn + part;
+            end = encoder::fss_utf_blocks::overrun(u32::from(src[at + k]), dst, end);
+        }
+    }
+    for k in last / 4 * 4..last {
         end = encoder::fss_utf_blocks::overrun(u32::from(src[at + k]), dst, end);
     }
     encoder::fss_utf::write(u32::from(src[at + last]), dst, end)

@@ -1,5 +1,6 @@
 use Prim.Native.Nat.{ℕ, ◌+◌, ◌≤◌, ◌<◌}
 use mathlib.Core.Logic.{◌≢◌}
+use mathlib.Core.Path.{◌≡◌}
 use mathlib.Core.List.{List, []}
 use native.Mathlib.Omega.{arith}
 use lib.ListN.{length as long, get_or}
@@ -98,4 +99,5 @@ four-end-requires c =
 pub loop-length-preserved : goal.loop-length-preserved
 loop-length-preserved c =
     let w = c.four-end.ensures in
-    written_join c.requires.1 c.loop-length.invariant (run (goal.at.loop-length-preserved c).In-loop-length c.pair.ensures.0) w.0 w.1
+    let both : c.loop-length.length + 2 ≡ c.loop-length.length + 1 + 1 = omega arith in
+    rw both at (written_join c.requires.1 c.loop-length.invariant (run (goal.at.loop-length-preserved c).In-loop-length c.pair.ensures.0) w.0 w.1)
