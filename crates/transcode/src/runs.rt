@@ -14,6 +14,24 @@ pub trait WriteRuns<G: TargetForm>: MeasureRuns {
         ensures { Wrote Self.form G.form (Self.units src.now) at result.length result.units (G.units dst.old) written (G.units dst.new) };
 }
 
+// A byte form written as itself goes item by item: no call of C takes it.
+const ITEM_BY_ITEM: Run = Run {
+    length: 0,
+    units: 0,
+};
+
+impl WriteRuns<FssUtf> for FssUtf {
+    fn write_run(_src: &[u8], _at: usize, _dst: &mut [u8], _written: usize) -> Run {
+        ITEM_BY_ITEM
+    }
+}
+
+impl WriteRuns<UtfEbcdic> for UtfEbcdic {
+    fn write_run(_src: &[u8], _at: usize, _dst: &mut [u8], _written: usize) -> Run {
+        ITEM_BY_ITEM
+    }
+}
+
 impl WriteRuns<UtfEbcdic> for FssUtf {
     fn write_run(src: &[u8], at: usize, dst: &mut [u8], written: usize) -> Run {
         runs_from_fss_utf::to_utf_ebcdic::write(src, at, dst, written)
