@@ -1,7 +1,9 @@
-use mathlib.Core.Path.{◌≡◌, refl, ap, ◌∙◌}
+use Prim.Native.Nat.{◌≤◌}
+use mathlib.Core.Path.{refl}
 use native.Mathlib.Omega.{arith}
+use lib.ListN.{length}
 use Rattle.std.specs.Prelude.{Ok}
-use Rattle.encoder.specs.Target.{target_form}
+use Rattle.std.proofs.Common.{rules}
 use Rattle.forms.specs.Conversion.{Measures}
 use Rattle.laws.proofs.Progress.{CharacterAt, character-onward}
 use Rattle.laws.proofs.Writing.{Writing, writing_begin, writing-held, writing_more, writing_run, writing_still}
@@ -20,10 +22,9 @@ still g c = writing_still c.loop-at.invariant c.write_run-run.ensures (omega (ar
 
 pub loop-at-init : goal.loop-at-init
 loop-at-init g c =
-    let named : target_form c.TARGET.result ≡ g.G.TargetForm.form = ap target_form c.TARGET.ensures ∙ g.met.G.TargetForm.named in
-    let measured : Measures g.F.SourceForm.form g.G.TargetForm.form (g.F.SourceForm.units c.args.src.now) (Ok c.in_ok-units.units) =
-    rw named at c.in_ok-units.ensures in
-    writing_begin measured refl (omega (arith, c.if-dst-units.false, g.met.G.TargetForm.counted c.args.dst.now))
+    let measured : Measures g.F.SourceForm.form g.G.TargetForm.form (g.F.SourceForm.units c.args.src.now) (Ok c.in_ok-units.units) = search rules in
+    let room : c.in_ok-units.units ≤ length c.args.dst.now = search rules in
+    writing_begin measured refl (omega (arith, room, g.met.G.TargetForm.counted c.args.dst.now))
 
 pub loop-at-preserved-then-taken-ne0 : goal.loop-at-preserved-then-taken-ne0
 loop-at-preserved-then-taken-ne0 g c = writing_run c.loop-at.invariant c.write_run-run.ensures
