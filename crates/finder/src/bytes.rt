@@ -4,7 +4,7 @@ ghost use Rattle.laws.specs.Finder.{units_before, nearest};
 ghost use Rattle.laws.proofs.Distances.{distance_back};
 ghost use Rattle.tables.specs.ByteForms.{byte_form};
 
-use crate::FindsStart;
+use crate::start::FindsStart;
 use reader::LongestItem;
 use tables::{ByteForm, ByteRole};
 use types::{FssUtf, UtfEbcdic};

@@ -6,24 +6,14 @@
 #![tactic(auto)]
 
 mod bytes;
+mod start;
 mod ucs4;
 mod utf16;
 
-ghost use Rattle.std.specs.Prelude.{◌≡◌, suc, ◌<◌, length};
 ghost use Rattle.forms.specs.Finder.{FindsItem};
-ghost use Rattle.laws.specs.Finder.{nearest};
-ghost use Rattle.laws.proofs.Distances.{distance_back};
 
-use reader::Reader;
+use start::FindsStart;
 use types::{Item, Refusal};
-
-// A form whose items are found from their middle.
-pub trait FindsStart: Reader {
-    // How far before the offset the item that covers it starts.
-    fn distance_back(text: &[Self::Unit], offset: usize) -> usize
-        requires { offset < length text.now }
-        ensures { result ≡ distance_back Self.form 0 (nearest Self.form.longest (suc offset) (Self.units text.now)) };
-}
 
 pub fn item_covering<F: FindsStart>(text: &[F::Unit], offset: usize) -> Result<Item, Refusal>
     ensures { FindsItem F.form (F.units text.now) offset result }

@@ -1,5 +1,5 @@
 // UCS-4: every unit is an item.
-use crate::FindsStart;
+use crate::start::FindsStart;
 use types::Ucs4;
 
 impl FindsStart for Ucs4 {

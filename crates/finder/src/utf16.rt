@@ -1,5 +1,5 @@
 // UTF-16: the start by the asked unit and the one before it.
-use crate::FindsStart;
+use crate::start::FindsStart;
 use types::Utf16;
 
 impl FindsStart for Utf16 {
