@@ -1,4 +1,4 @@
--- The search backwards over bytes: what its loop keeps, how a trailing byte carries it on, and what it comes to.
+-- The search backwards over bytes: what its loop keeps, how a trailing byte carries it on, and what it comes to; and the two answers for any form.
 use Prim.Native.Nat.{ℕ, zero, suc, ◌+◌, ◌-◌, ◌≤◌, ◌<◌}
 use mathlib.Core.Path.{◌≡◌, refl, sym, ap, ◌∙◌}
 use mathlib.Core.List.{List}
@@ -6,13 +6,22 @@ use native.Mathlib.Omega.{arith}
 use native.Mathlib.Numerals.{add-one}
 use borrow.Author.Tests.{le-leb, lt-leb}
 use lib.ListN.{length, get_or, take, drop}
+use Rattle.types.specs.declared.Fault.TheVariants.{OffsetOutOfRange}
+use Rattle.types.specs.declared.Item.{Item}
+use Rattle.types.specs.declared.Refusal.{Refusal}
+use Rattle.forms.specs.Fault.{limit, refusal}
 use Rattle.forms.specs.Form.{Role, Form}
+use Rattle.forms.specs.Finder.{FindsItem}
 use Rattle.laws.specs.Finder.{units_before, nearest}
 use Rattle.laws.proofs.Distances.{distance_at, distance_back, part_nearest}
+use Rattle.laws.proofs.Finder.{Near, out_of_range}
+use Rattle.laws.proofs.Numbers.{finds_item}
+use Rattle.items.specs.ItemAt.{item_at}
 use Rattle.tables.specs.ByteForms.{role_seen}
 use Rattle.tables.specs.declared.ByteRole.{ByteRole}
 use Rattle.tables.specs.declared.ByteRole.TheVariants.{Lead, Trailing, Invalid}
 use Rattle.tables.proofs.Agreement.{role_is}
+use Rattle.std.specs.Prelude.{Ok, Err}
 
 -- a unit by its role: trailing, a lead that takes the units passed, or another
 seen-trailing : (o : Role) (j d : ℕ) (r : ByteRole) → r ≡ role_seen o → r ≡ Trailing → distance_at o j d ≡ d
@@ -72,3 +81,12 @@ pub nearest_part :
     (s : List ℕ) (p from n : ℕ) → p < length s → from ≡ p + 1 - n
     → let t = take (p + 1 - from) (drop from s) in units_before (length t) t ≡ nearest n (suc p) s
 nearest_part s p from n h b = rw b (part_nearest n (p + 1) s (omega arith) ∙ ap (λ (x : ℕ). nearest n x s) (add-one p))
+
+-- the refusal with the asked offset, past the text
+pub beyond_at :
+    {F : Form} {s : List ℕ} {p at : ℕ} {r : Refusal} → r ≡ refusal OffsetOutOfRange at → at ≡ p → length s ≤ limit → length s ≤ p → FindsItem F s p (Err r)
+beyond_at {F} {s} {p} {at} {r} h e w l = finds_item (out_of_range F s p (h ∙ ap (refusal OffsetOutOfRange) e) w l)
+
+-- the item read at the start that was found
+pub finds_at : {F : Form} {s : List ℕ} {p d at : ℕ} {i : Item} → Near F s p d → at ≡ p - d → i ≡ item_at F s at → FindsItem F s p (Ok i)
+finds_at {F} {s} {p} {d} {at} {i} k e h = finds_item (k.answer i (h ∙ ap (λ (x : ℕ). item_at F s x) e))

@@ -19,10 +19,10 @@ returns-then-passed-length c =
     omega arith ∙ seeking_takes c.loop-at.invariant c.loop-at-test.true c.role.result (told (goal.at.returns-then-passed-length c).After-role) c.in-Lead.length c.in-Lead.is (omega arith)
 
 pub returns-in-Lead : goal.returns-in-Lead
-returns-in-Lead c = seeking_leaves c.loop-at.invariant c.loop-at-test.true c.role.result (told (goal.at.returns-in-Lead c).After-role) c.in-Lead.length c.in-Lead.is (omega arith)
+returns-in-Lead c = omega arith ∙ seeking_leaves c.loop-at.invariant c.loop-at-test.true c.role.result (told (goal.at.returns-in-Lead c).After-role) c.in-Lead.length c.in-Lead.is (omega arith)
 
 pub returns-in-Invalid : goal.returns-in-Invalid
-returns-in-Invalid c = seeking_stops c.loop-at.invariant c.loop-at-test.true c.role.result (told (goal.at.returns-in-Invalid c).After-role) c.in-Invalid.is
+returns-in-Invalid c = omega arith ∙ seeking_stops c.loop-at.invariant c.loop-at-test.true c.role.result (told (goal.at.returns-in-Invalid c).After-role) c.in-Invalid.is
 
 pub loop-at-preserved : goal.loop-at-preserved
 loop-at-preserved c =
