@@ -58,7 +58,10 @@ module _ (F : Form) (s : List ℕ) (c : Cursor) where
         let l : length s ≤ c.offset = omega arith in
         reads_item F c s (Ok (End c)) (rw (le-ltb limit (length s) w, le-ltb (length s) c.offset (omega arith), drop_of_length-le s l))
 
-    module _ (h : c.offset < length s) (i : Item) (e : i ≡ item_at F s c.offset) where
+    module _ (h : c.offset < length s) (i : Item) {at : ℕ} (a : i ≡ item_at F s at) (p : at ≡ c.offset) where
+      e : i ≡ item_at F s c.offset
+      e = a ∙ ap (λ (x : ℕ). item_at F s x) p
+
       length_is : (span_of i).length ≡ size (first_of F (get_or s c.offset 0) (drop (c.offset + 1) s))
       length_is = ap (λ (x : Item). (span_of x).length) e ∙ ap (λ (x : Span). x.length) (item-span F c.offset (first_of F (get_or s c.offset 0) (drop (c.offset + 1) s)))
 

@@ -1,8 +1,10 @@
 use Prim.Native.Nat.{◌≤◌, ◌<◌}
 use native.Mathlib.Omega.{arith}
 use lib.ListN.{length}
+use Rattle.std.proofs.Common.{rules}
 use Rattle.laws.proofs.ReadItems.{ItemAt, item-at, item-onward}
 use Rattle.lossy_runs.proofs.Filling.{Filling, filling_end, filling_more, filling_run, filling_none}
+use Rattle.lossy.proofs.Counting.{ended}
 use Rattle.lossy.proofs.decode_lossy.Goals as goal
 
 pub loop-at-preserved-then-run-at : goal.loop-at-preserved-then-run-at
@@ -35,4 +37,4 @@ returns g c =
     let m = g.met.F.SourceForm in
     let n = m.counted c.args.text.now in
     let h : length (f.units c.args.text.now) ≤ c.loop-at.at = omega (arith, n) in
-    filling_end m.laws c.loop-at.invariant h
+    ended {o = c.loop-at.values} {p = c.loop-at.starts} (search rules) (search rules) (filling_end m.laws c.loop-at.invariant h)
