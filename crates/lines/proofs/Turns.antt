@@ -51,6 +51,13 @@ pub header_put :
     → Holds d header written₀ out₀ × (length out₀ ≡ length d)
 header_put d out₀ written₀ q w h = (holds_first d header out₀ written₀ q w, length_with d header out₀ 0 w (omega arith))
 
+-- a line is put where its end says that it is
+pub placed_at :
+    (out text after : List ℕ) (at from to : ℕ) → to ≡ at + length text → after ≡ with_units out at text → to ≡ from + length text
+    → after ≡ with_units out from text
+placed_at out text after at from to e w q =
+    let z : at ≡ from = omega (arith, e, q) in w ∙ ap (λ (x : ℕ). with_units out x text) z
+
 pub mark-most : (i : Item) → mark_count i ≤ 1
 mark-most (Character v p) = omega arith
 mark-most (Mark f p) = omega arith

@@ -3,10 +3,12 @@ use mathlib.Core.Path.{◌≡◌, ap, ◌∙◌}
 use native.Mathlib.Omega.{arith}
 use lib.ListN.{length}
 use Rattle.types.specs.declared.Span.{Span}
+use Rattle.std.proofs.Common.{rules}
 use Rattle.forms.specs.Form.{span_of}
+use Rattle.forms.specs.Buffer.{with_units}
 use Rattle.lines.specs.Listing.{line}
 use Rattle.laws.proofs.Buffers.{length_with}
-use Rattle.lines.proofs.Turns.{header_put, item-offset, item-short, item-within, listed_more, listed_end}
+use Rattle.lines.proofs.Turns.{header_put, item-offset, item-short, item-within, listed_more, listed_end, placed_at}
 use Rattle.lines.proofs.list.Goals as goal
 
 pub item_line-requires : goal.item_line-requires
@@ -35,10 +37,12 @@ loop-at-preserved c =
     let room : l.written + length text ≤ length l.out =
     omega (arith, l.invariant.room, l.invariant.cells, begun.0.counted, begun.1, ap length c.as_slice.ensures.value) in
     let span_is : c.span-span.result.length ≡ (span_of i.result).length = ap (λ (x : Span). x.length) c.span-span.ensures in
+    let behind : put.result ≡ l.written + length text = search rules in
+    let placed : put.new.out ≡ with_units l.out l.written text = placed_at l.out text put.new.out _ l.written put.result put.ensures.0 put.ensures.1 behind in
     rw span_is
     (listed_more s l.at c.loop-at-test.true i.result i.ensures c.put-written.result c.put-written.new.out l.out l.written l.count l.marks l.invariant
-    text put.new.out put.result c.mark_count-marks.result text_is (omega (arith, ap length c.as_slice.ensures.value)) put.ensures.0
-    put.ensures.1 (length_with l.out text put.new.out l.written put.ensures.1 room) c.mark_count-marks.ensures)
+    text put.new.out put.result c.mark_count-marks.result text_is (omega (arith, ap length c.as_slice.ensures.value)) behind placed
+    (length_with l.out text put.new.out l.written placed room) c.mark_count-marks.ensures)
 
 pub returns : goal.returns
 returns c =
